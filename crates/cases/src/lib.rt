@@ -1,0 +1,1 @@
+// The worked cases of document 01, proved about the definitions. Definitions and one theorem alone, no code.

@@ -1,0 +1,132 @@
+-- Refusals 1 to 14: rows before claims, in number order, each number beside its test.
+use Prim.Native.Nat.{ℕ, _+_, _-_}
+use mathlib.Core.Bool.{Bool, cond, not, _&&_, _||_}
+use mathlib.Core.List.{List, [], _∷_, _++_}
+use lib.Dec.{leb, ltb, eqb}
+use lib.ListN.{length, getD}
+use Rattle.walk.specs.Fold.{sum}
+use Rattle.model.specs.declared.answers.Verdict.{Verdict}
+use Rattle.model.specs.declared.kinds.Kind.{Kind}
+use Rattle.model.specs.Limits.{mostStates, mostActions, mostBranches, mostWeightScale, mostClaimScale, mostCost, mostCostClaim, none}
+use Rattle.model.specs.Kinds.{isCost, isKind}
+use Rattle.model.specs.Tables.{Model, Claim, states, actions, branches, firstAction, firstBranch, destination, weight, scale, cost, claim, rank}
+use Rattle.model.specs.Answers.{pass, tried, each, require, throughout}
+
+abbrev pub between : ℕ → ℕ → ℕ → Bool
+between lo hi x = leb lo x && leb x hi
+
+-- 1: the kind is 1 to 8
+unfoldable pub kindTest : ℕ → Verdict
+unfolding require
+kindTest kind = require (isKind kind) 1 0
+
+-- 2: D is 1 to 1,000,000
+unfoldable pub weightScaleTest : Model → Verdict
+unfolding require
+weightScaleTest t = require (between 1 mostWeightScale (t .d)) 2 0
+
+-- 3: C is 1 to 1,000,000,000; for cost kinds exactly 1
+unfoldable pub claimScaleTest : Kind → Claim → Verdict
+unfolding require
+claimScaleTest k u = require (cond (isCost (k .measure)) (eqb (u .c) 1) (between 1 mostClaimScale (u .c))) 3 0
+
+-- 4: there are 1 to 20,000 states
+unfoldable pub statesTest : Model → Verdict
+unfolding require
+statesTest t = require (between 1 mostStates (states t)) 4 0
+
+-- 5: a table has the length that it should have
+unfoldable pub lengthTest : ℕ → Bool → Verdict
+unfolding require
+lengthTest table right = require right 5 table
+
+-- the entries of a table that the claim has, or has not
+abbrev pub entries : Bool → ℕ → ℕ
+entries has n = cond has n 0
+
+unfoldable pub modelLengths : Model → List Verdict
+modelLengths t =
+    lengthTest 2 (eqb (length (t .actionStarts)) (states t + 1))
+    ∷ lengthTest 3 (between 2 (mostActions + 1) (length (t .branchStarts)))
+    ∷ lengthTest 4 (leb (branches t) mostBranches)
+    ∷ lengthTest 5 (eqb (length (t .weights)) (branches t))
+    ∷ []
+
+unfoldable pub claimLengths : Kind → Model → Claim → List ℕ → List Verdict
+claimLengths k t u choices =
+    lengthTest 6 (eqb (length (u .costs)) (entries (k .costs) (states t)))
+    ∷ lengthTest 7 (eqb (length (u .claims)) (states t))
+    ∷ lengthTest 8 (eqb (length (u .ranks)) (entries (k .ranks) (states t)))
+    ∷ lengthTest 9 (eqb (length choices) (entries (k .choices) (states t)))
+    ∷ []
+
+-- a start is right if the first is 0, any other is above the one before it, and the last is the end
+unfoldable pub startRight : List ℕ → ℕ → ℕ → Bool
+startRight starts end i =
+    cond (eqb i 0) (eqb (getD starts i 0) 0) (ltb (getD starts (i - 1) 0) (getD starts i 0))
+    && (not (eqb (i + 1) (length starts)) || eqb (getD starts i 0) end)
+
+-- 6 and 7: the starts begin at 0, rise strictly and end at m, or b
+unfoldable pub startsTest : ℕ → List ℕ → ℕ → Verdict
+unfolding throughout
+startsTest number starts end = throughout (startRight starts end) (length starts) number
+
+-- 8: a target mark is 0 or 1
+unfoldable pub marksTest : Model → Verdict
+unfolding throughout
+marksTest t = throughout (λ s. leb (getD (t .marks) s 0) 1) (states t) 8
+
+-- 9: a destination is a state; 10: a weight is 1 to D
+unfoldable pub branchTest : Model → ℕ → ℕ → Verdict
+unfolding tried require
+branchTest t a j =
+    tried (require (ltb (destination t j) (states t)) 9 j ∷ require (between 1 (scale t a) (weight t j)) 10 j ∷ []) pass
+
+-- 11: the weights of an action add up to D, once each of its branches is right
+unfoldable pub actionTest : Model → ℕ → Verdict
+unfolding each require sum
+actionTest t a =
+    each (branchTest t a) (firstBranch t a) (firstBranch t (a + 1))
+    (require (eqb (sum (weight t) (firstBranch t a) (firstBranch t (a + 1))) (scale t a)) 11 a)
+
+-- 9, 10 and 11 are one walk over the actions in order
+unfoldable pub walkTest : Model → Verdict
+unfolding each
+walkTest t = each (actionTest t) 0 (actions t) pass
+
+-- 6 to 11: the rows counted, in tables whose lengths are right
+unfoldable pub rowTests : Model → List Verdict
+rowTests t =
+    startsTest 6 (t .actionStarts) (actions t)
+    ∷ startsTest 7 (t .branchStarts) (branches t)
+    ∷ marksTest t
+    ∷ walkTest t
+    ∷ []
+
+-- 12: a cost is at most 1,000,000,000
+unfoldable pub costsTest : Claim → Verdict
+unfolding throughout
+costsTest u = throughout (λ s. leb (cost u s) mostCost) (length (u .costs)) 12
+
+-- an arrival claim is 0 to C, a cost claim 0 to 1,000,000,000,000
+abbrev pub greatestClaim : Kind → Claim → ℕ
+greatestClaim k u = cond (isCost (k .measure)) mostCostClaim (u .c)
+
+-- 13: a claim is in its range
+unfoldable pub claimsTest : Kind → Claim → Verdict
+unfolding throughout
+claimsTest k u = throughout (λ s. leb (claim u s) (greatestClaim k u)) (length (u .claims)) 13
+
+-- 14: a rank is 0 to n - 1, or none
+unfoldable pub ranksTest : Model → Claim → Verdict
+unfolding throughout
+ranksTest t u = throughout (λ s. ltb (rank u s) (states t) || eqb (rank u s) none) (length (u .ranks)) 14
+
+-- the refusals 2 to 14 of a claim of kind k, in number order
+unfoldable pub tests : Kind → Model → Claim → List ℕ → List Verdict
+tests k t u choices =
+    weightScaleTest t
+    ∷ claimScaleTest k u
+    ∷ statesTest t
+    ∷ modelLengths t ++ claimLengths k t u choices ++ rowTests t
+    ++ (costsTest u ∷ claimsTest k u ∷ ranksTest t u ∷ [])

@@ -1,0 +1,68 @@
+// What comes back: one verdict, with the kind of claim beside it.
+
+pub enum Verdict {
+    Accepted {
+        rank: u32,
+    },
+    Refused {
+        number: u32,
+        place: u32,
+    },
+    Violated {
+        number: u32,
+        state: u32,
+        action: u32,
+    },
+}
+
+// The verdict, and the kind's number as lent.
+pub struct Answer {
+    pub kind: u32,
+    pub verdict: Verdict,
+}
+
+// Document 01's numbers of the refusals over tables.
+pub struct Refusal {}
+
+impl Refusal {
+    pub const KIND: u32 = 1;
+
+    pub const WEIGHT_SCALE: u32 = 2;
+
+    pub const CLAIM_SCALE: u32 = 3;
+
+    pub const STATES: u32 = 4;
+
+    pub const LENGTH: u32 = 5;
+
+    pub const ACTION_STARTS: u32 = 6;
+
+    pub const BRANCH_STARTS: u32 = 7;
+
+    pub const MARK: u32 = 8;
+
+    pub const DESTINATION: u32 = 9;
+
+    pub const WEIGHT: u32 = 10;
+
+    pub const TOTAL: u32 = 11;
+
+    pub const COST: u32 = 12;
+
+    pub const CLAIM: u32 = 13;
+
+    pub const RANK: u32 = 14;
+}
+
+// Document 01's numbers of the conditions.
+pub struct Condition {}
+
+impl Condition {
+    pub const TARGET: u32 = 21;
+
+    pub const SUITS: u32 = 22;
+
+    pub const RANKED: u32 = 23;
+
+    pub const FALLS: u32 = 24;
+}

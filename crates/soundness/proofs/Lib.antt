@@ -1,0 +1,5 @@
+pub mod Conditions
+pub mod Sums
+pub mod Steps
+pub mod Never
+pub mod Remainder
