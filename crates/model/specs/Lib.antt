@@ -6,3 +6,4 @@ pub mod Answers
 pub mod Refusals
 pub mod Conditions
 pub mod Checked
+pub mod WellFormed

@@ -122,11 +122,15 @@ unfoldable pub ranksTest : Model → Claim → Verdict
 unfolding throughout
 ranksTest t u = throughout (λ s. ltb (rank u s) (states t) || eqb (rank u s) none) (length (u .ranks)) 14
 
+-- 2 to 5: the scales, the number of states and the lengths of the tables
+unfoldable pub sizeTests : Kind → Model → Claim → List ℕ → List Verdict
+sizeTests k t u choices =
+    weightScaleTest t ∷ claimScaleTest k u ∷ statesTest t ∷ (modelLengths t ++ claimLengths k t u choices)
+
+-- 12 to 14: costs, claims and ranks in their ranges
+unfoldable pub rangeTests : Kind → Model → Claim → List Verdict
+rangeTests k t u = costsTest u ∷ claimsTest k u ∷ ranksTest t u ∷ []
+
 -- the refusals 2 to 14 of a claim of kind k, in number order
 unfoldable pub tests : Kind → Model → Claim → List ℕ → List Verdict
-tests k t u choices =
-    weightScaleTest t
-    ∷ claimScaleTest k u
-    ∷ statesTest t
-    ∷ modelLengths t ++ claimLengths k t u choices ++ rowTests t
-    ++ (costsTest u ∷ claimsTest k u ∷ ranksTest t u ∷ [])
+tests k t u choices = sizeTests k t u choices ++ (rowTests t ++ rangeTests k t u)
