@@ -19,7 +19,7 @@ use Rattle.model.specs.Kinds.{isCost}
 use Rattle.model.specs.Tables.{Model, Claim, states, actions, branches, firstBranch, destination, weight, scale, cost, claim, rank}
 use Rattle.model.specs.Answers.{pass, tried, each, require, throughout}
 use Rattle.model.specs.Checked.{accepts}
-use Rattle.model.specs.Refusals.{between, entries, greatestClaim, weightScaleTest, claimScaleTest, statesTest, lengthTest, modelLengths, claimLengths, startRight, startsTest, marksTest, branchTest, actionTest, walkTest, rowTests, costsTest, claimsTest, ranksTest, sizeTests, rangeTests, tests}
+use Rattle.model.specs.Refusals.{between, entries, greatestClaim, weightScaleTest, claimScaleTest, statesTest, lengthTest, modelLengths, claimLengths, startRight, startsTest, marksTest, branchTest, totalTest, actionTest, walkTest, rowTests, costsTest, claimsTest, ranksTest, sizeTests, rangeTests, tests}
 use Rattle.model.specs.WellFormed.{Sized, Starts, Row, Counted, InRange, WellFormed}
 use Rattle.model.proofs.Tried.{AllPass, all-append, append-all, tried-passed, tried-all, tried-last, require-right, right-require, passes-require, each-all, each-last, all-each, throughout-all, all-throughout}
 
@@ -182,11 +182,8 @@ module _ (t : Model) (a : ℕ) where
       (passes-require (ltb (destination t j) (states t)) 9 j (lt→ltb (destination t j) (states t) p), (passes-require (between 1 (scale t a) (weight t j)) 10 j q, tt)))
       tt
 
-  total-test : Verdict
-  total-test = require (eqb (sum (weight t) (firstBranch t a) (firstBranch t (a + 1))) (scale t a)) 11 a
-
   pub row-right : T (accepts (actionTest t a)) → Row t a
-  unfolding actionTest total-test
+  unfolding actionTest totalTest
   row-right h =
       record {
         destinations = λ j p q. branch j p q .0;
@@ -194,17 +191,17 @@ module _ (t : Model) (a : ℕ) where
         weight-most = λ j p q. from-above 1 (scale t a) (weight t j) (branch j p q .1);
         total = eqb→eq (sum (weight t) (firstBranch t a) (firstBranch t (a + 1))) (scale t a)
             (require-right (eqb (sum (weight t) (firstBranch t a) (firstBranch t (a + 1))) (scale t a)) 11 a
-            (each-last (branchTest t a) (firstBranch t (a + 1)) total-test (firstBranch t a) h));
+            (each-last (branchTest t a) (firstBranch t (a + 1)) (totalTest t a) (firstBranch t a) h));
       }
     where
       branch : (j : ℕ) → firstBranch t a ≤ j → j < firstBranch t (a + 1) → (destination t j < states t) × T (between 1 (scale t a) (weight t j))
-      branch j p q = branch-right j (each-all (branchTest t a) (firstBranch t (a + 1)) total-test (firstBranch t a) h j p q)
+      branch j p q = branch-right j (each-all (branchTest t a) (firstBranch t (a + 1)) (totalTest t a) (firstBranch t a) h j p q)
 
   pub right-row : Row t a → T (accepts (actionTest t a))
-  unfolding actionTest total-test
+  unfolding actionTest totalTest
   right-row w =
       rw
-      (all-each (branchTest t a) (firstBranch t (a + 1)) total-test (firstBranch t a)
+      (all-each (branchTest t a) (firstBranch t (a + 1)) (totalTest t a) (firstBranch t a)
       (λ j p q. right-branch j (w .destinations j p q) (in-between 1 (scale t a) (weight t j) (w .weight-least j p q) (w .weight-most j p q))))
       (passes-require (eqb (sum (weight t) (firstBranch t a) (firstBranch t (a + 1))) (scale t a)) 11 a
       (eq→eqb (sum (weight t) (firstBranch t a) (firstBranch t (a + 1))) (scale t a) (w .total)))

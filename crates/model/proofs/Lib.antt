@@ -1,3 +1,4 @@
 pub mod Owned
 pub mod Tried
 pub mod Formed
+pub mod Rising

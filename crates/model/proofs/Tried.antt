@@ -11,6 +11,7 @@ use borrow.Author.Tests.{lt-ltb, le-ltb, not-true, not-false}
 use Rattle.walk.specs.Fold.{from, first, any}
 use Rattle.walk.proofs.Bools.{holds, is-true, is-false}
 use Rattle.walk.proofs.Fold.{down, at-end, from-end, from-step, first-end, lowest, Lowest}
+use Rattle.walk.proofs.Loop.{Seeking, seek-start, seek-pass, seek-hit, seek-end}
 use Rattle.model.specs.declared.answers.Verdict.{Verdict}
 use Rattle.model.specs.declared.answers.Verdict.the-variants.{Accepted, Refused, Violated}
 use Rattle.model.specs.Answers.{pass, then, tried, each, require, throughout}
@@ -60,6 +61,28 @@ unfolding tried
 tried-passed [] v h = refl
 tried-passed (x ∷ xs) v h = then-passed x (tried xs v) (h .0) ∙ tried-passed xs v (h .1)
 
+pub tried-go : (x : Verdict) (xs : List Verdict) (v : Verdict) → T (accepts x) → tried (x ∷ xs) v ≡ tried xs v
+unfolding tried
+tried-go x xs v h = then-passed x (tried xs v) h
+
+pub tried-stop : (x : Verdict) (xs : List Verdict) (v : Verdict) → accepts x ≡ false → tried (x ∷ xs) v ≡ x
+unfolding tried
+tried-stop x xs v h = then-stopped x (tried xs v) h
+
+-- in code, where b is whether the verdict accepts: it does not stop, or it does
+pub goes : {b : Bool} {v x : Verdict} → b ≡ accepts v → not b ≡ false → v ≡ x → T (accepts x)
+goes {b} e n q = holds (sym (e ∙ ap accepts q) ∙ not-false b n)
+
+pub stops : {b : Bool} {v x : Verdict} → b ≡ accepts v → not b ≡ true → v ≡ x → accepts x ≡ false
+stops {b} e n q = sym (e ∙ ap accepts q) ∙ not-true b n
+
+-- a test that can only pass or refuse is its own last word
+pub settled : (x : Verdict) → (T (accepts x) → x ≡ pass) → then x pass ≡ x
+unfolding then
+settled (Accepted r) h = sym (h tt)
+settled (Refused k p) h = refl
+settled (Violated k s a) h = refl
+
 pub tried-all : (xs : List Verdict) (v : Verdict) → T (accepts (tried xs v)) → AllPass xs
 unfolding tried
 tried-all [] v h = tt
@@ -94,6 +117,10 @@ pub right-require : (b : Bool) (k p : ℕ) → T b → require b k p ≡ pass
 unfolding require
 right-require true k p h = refl
 right-require false k p h = absurd h
+
+pub wrong-require : (b : Bool) (k p : ℕ) → b ≡ false → require b k p ≡ Refused k p
+unfolding require
+wrong-require b k p h = rw h
 
 pub passes-require : (b : Bool) (k p : ℕ) → T b → T (accepts (require b k p))
 passes-require b k p h = rw (right-require b k p h) tt
@@ -183,3 +210,20 @@ module _ (right : ℕ → Bool) (n k : ℕ) where
       by : (n ≤ first (λ j. not (right j)) 0 n) ⊎ (first (λ j. not (right j)) 0 n < n) → first (λ j. not (right j)) 0 n ≡ n
       by (inl q) = omega (arith, low .high)
       by (inr q) = absurd (subst T (not-true (right (first (λ j. not (right j)) 0 n)) (low .hit q)) (p (first (λ j. not (right j)) 0 n) q))
+
+-- the loop that tests a table: right at each index below i
+pub record Through (right : ℕ → Bool) (n i : ℕ) : Type 0 where
+  pub seeking : Seeking (λ j. not (right j)) n (first (λ j. not (right j)) 0 n) i
+
+pub through-start : (right : ℕ → Bool) (n : ℕ) → Through right n 0
+through-start right n = record { seeking = seek-start (λ j. not (right j)) 0 n zero-le }
+
+module _ {right : ℕ → Bool} {n i : ℕ} (w : Through right n i) where
+  pub through-pass : i < n → right i ≡ true → Through right n (i + 1)
+  through-pass h e = record { seeking = seek-pass (w .seeking) h (rw e) }
+
+  pub through-stop : (k : ℕ) → i < n → right i ≡ false → Refused k i ≡ throughout right n k
+  through-stop k h e = throughout-stop right n k i h (seek-hit (w .seeking) h (rw e))
+
+  pub through-end : (k : ℕ) → n ≤ i → pass ≡ throughout right n k
+  through-end k h = throughout-pass right n k (seek-end (w .seeking) h)

@@ -7,3 +7,4 @@ pub mod Refusals
 pub mod Conditions
 pub mod Checked
 pub mod WellFormed
+pub mod Meets

@@ -9,7 +9,7 @@ use Rattle.model.specs.declared.answers.Verdict.{Verdict}
 use Rattle.model.specs.declared.kinds.Kind.{Kind}
 use Rattle.model.specs.Limits.{mostStates, mostActions, mostBranches, mostWeightScale, mostClaimScale, mostCost, mostCostClaim, none}
 use Rattle.model.specs.Kinds.{isCost, isKind}
-use Rattle.model.specs.Tables.{Model, Claim, states, actions, branches, firstAction, firstBranch, destination, weight, scale, cost, claim, rank}
+use Rattle.model.specs.Tables.{Model, Claim, states, actions, branches, firstAction, firstBranch, destination, weight, scale}
 use Rattle.model.specs.Answers.{pass, tried, each, require, throughout}
 
 abbrev pub between : ℕ → ℕ → ℕ → Bool
@@ -60,11 +60,16 @@ claimLengths k t u choices =
     ∷ lengthTest 9 (eqb (length choices) (entries (k .choices) (states t)))
     ∷ []
 
--- a start is right if the first is 0, any other is above the one before it, and the last is the end
+-- the first start is 0, and any other is above the one before it
+abbrev pub startRises : List ℕ → ℕ → Bool
+startRises starts i = cond (eqb i 0) (eqb (getD starts i 0) 0) (ltb (getD starts (i - 1) 0) (getD starts i 0))
+
+-- the last start is the end
+abbrev pub startEnds : List ℕ → ℕ → ℕ → Bool
+startEnds starts end i = not (eqb (i + 1) (length starts)) || eqb (getD starts i 0) end
+
 unfoldable pub startRight : List ℕ → ℕ → ℕ → Bool
-startRight starts end i =
-    cond (eqb i 0) (eqb (getD starts i 0) 0) (ltb (getD starts (i - 1) 0) (getD starts i 0))
-    && (not (eqb (i + 1) (length starts)) || eqb (getD starts i 0) end)
+startRight starts end i = startRises starts i && startEnds starts end i
 
 -- 6 and 7: the starts begin at 0, rise strictly and end at m, or b
 unfoldable pub startsTest : ℕ → List ℕ → ℕ → Verdict
@@ -72,9 +77,9 @@ unfolding throughout
 startsTest number starts end = throughout (startRight starts end) (length starts) number
 
 -- 8: a target mark is 0 or 1
-unfoldable pub marksTest : Model → Verdict
+unfoldable pub marksTest : List ℕ → Verdict
 unfolding throughout
-marksTest t = throughout (λ s. leb (getD (t .marks) s 0) 1) (states t) 8
+marksTest marks = throughout (λ s. leb (getD marks s 0) 1) (length marks) 8
 
 -- 9: a destination is a state; 10: a weight is 1 to D
 unfoldable pub branchTest : Model → ℕ → ℕ → Verdict
@@ -82,12 +87,15 @@ unfolding tried require
 branchTest t a j =
     tried (require (ltb (destination t j) (states t)) 9 j ∷ require (between 1 (scale t a) (weight t j)) 10 j ∷ []) pass
 
--- 11: the weights of an action add up to D, once each of its branches is right
+-- 11: the weights of an action add up to D
+unfoldable pub totalTest : Model → ℕ → Verdict
+unfolding require sum
+totalTest t a = require (eqb (sum (weight t) (firstBranch t a) (firstBranch t (a + 1))) (scale t a)) 11 a
+
+-- the branches of an action in order, and then their total
 unfoldable pub actionTest : Model → ℕ → Verdict
-unfolding each require sum
-actionTest t a =
-    each (branchTest t a) (firstBranch t a) (firstBranch t (a + 1))
-    (require (eqb (sum (weight t) (firstBranch t a) (firstBranch t (a + 1))) (scale t a)) 11 a)
+unfolding each branchTest totalTest
+actionTest t a = each (branchTest t a) (firstBranch t a) (firstBranch t (a + 1)) (totalTest t a)
 
 -- 9, 10 and 11 are one walk over the actions in order
 unfoldable pub walkTest : Model → Verdict
@@ -99,28 +107,28 @@ unfoldable pub rowTests : Model → List Verdict
 rowTests t =
     startsTest 6 (t .actionStarts) (actions t)
     ∷ startsTest 7 (t .branchStarts) (branches t)
-    ∷ marksTest t
+    ∷ marksTest (t .marks)
     ∷ walkTest t
     ∷ []
 
 -- 12: a cost is at most 1,000,000,000
-unfoldable pub costsTest : Claim → Verdict
+unfoldable pub costsTest : List ℕ → Verdict
 unfolding throughout
-costsTest u = throughout (λ s. leb (cost u s) mostCost) (length (u .costs)) 12
+costsTest costs = throughout (λ s. leb (getD costs s 0) mostCost) (length costs) 12
 
 -- an arrival claim is 0 to C, a cost claim 0 to 1,000,000,000,000
 abbrev pub greatestClaim : Kind → Claim → ℕ
 greatestClaim k u = cond (isCost (k .measure)) mostCostClaim (u .c)
 
--- 13: a claim is in its range
-unfoldable pub claimsTest : Kind → Claim → Verdict
+-- 13: a claim is 0 to its limit
+unfoldable pub claimsTest : ℕ → List ℕ → Verdict
 unfolding throughout
-claimsTest k u = throughout (λ s. leb (claim u s) (greatestClaim k u)) (length (u .claims)) 13
+claimsTest limit claims = throughout (λ s. leb (getD claims s 0) limit) (length claims) 13
 
 -- 14: a rank is 0 to n - 1, or none
-unfoldable pub ranksTest : Model → Claim → Verdict
+unfoldable pub ranksTest : ℕ → List ℕ → Verdict
 unfolding throughout
-ranksTest t u = throughout (λ s. ltb (rank u s) (states t) || eqb (rank u s) none) (length (u .ranks)) 14
+ranksTest n ranks = throughout (λ s. ltb (getD ranks s 0) n || eqb (getD ranks s 0) none) (length ranks) 14
 
 -- 2 to 5: the scales, the number of states and the lengths of the tables
 unfoldable pub sizeTests : Kind → Model → Claim → List ℕ → List Verdict
@@ -129,7 +137,7 @@ sizeTests k t u choices =
 
 -- 12 to 14: costs, claims and ranks in their ranges
 unfoldable pub rangeTests : Kind → Model → Claim → List Verdict
-rangeTests k t u = costsTest u ∷ claimsTest k u ∷ ranksTest t u ∷ []
+rangeTests k t u = costsTest (u .costs) ∷ claimsTest (greatestClaim k u) (u .claims) ∷ ranksTest (states t) (u .ranks) ∷ []
 
 -- the refusals 2 to 14 of a claim of kind k, in number order
 unfoldable pub tests : Kind → Model → Claim → List ℕ → List Verdict

@@ -22,6 +22,21 @@ pub record Claim : Type 0 where
   pub claims : List ℕ
   pub ranks : List ℕ
 
+-- the records of lent tables
+abbrev pub modelOf : ℕ → List ℕ → List ℕ → List ℕ → List ℕ → List ℕ → Model
+modelOf d marks actionStarts branchStarts destinations weights =
+    record {
+      d = d;
+      marks = marks;
+      actionStarts = actionStarts;
+      branchStarts = branchStarts;
+      destinations = destinations;
+      weights = weights;
+    }
+
+abbrev pub claimOf : ℕ → List ℕ → List ℕ → List ℕ → Claim
+claimOf c costs claims ranks = record { c = c; costs = costs; claims = claims; ranks = ranks }
+
 -- n states, m actions and b branches
 abbrev pub states : Model → ℕ
 states t = length (t .marks)

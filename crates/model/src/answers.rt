@@ -1,4 +1,7 @@
 // What comes back: one verdict, with the kind of claim beside it.
+ghost use mathlib.Core.Path.{_≡_};
+ghost use Rattle.model.specs.Answers.{then, require};
+ghost use Rattle.model.specs.Checked.{accepts};
 
 pub enum Verdict {
     Accepted {
@@ -13,6 +16,39 @@ pub enum Verdict {
         state: u32,
         action: u32,
     },
+}
+
+impl Verdict {
+    // Nothing was found wrong.
+    pub fn accepts(self) -> bool
+        ensures { λ r. ⌜ r ≡ accepts self ⌝ }
+    {
+        match self {
+            Verdict::Accepted { rank: _ } => true,
+            Verdict::Refused {
+                number: _,
+                place: _,
+            } => false,
+            Verdict::Violated {
+                number: _,
+                state: _,
+                action: _,
+            } => false,
+        }
+    }
+
+    // What this says, unless it accepts: then refused with this number at this place, unless it is right.
+    pub fn require(self, right: bool, number: u32, place: u32) -> Verdict
+        ensures { λ r. ⌜ r ≡ then self (require right number place) ⌝ }
+    {
+        if self.accepts() {
+            if right {
+                return Verdict::Accepted { rank: 0 };
+            }
+            return Verdict::Refused { number, place };
+        }
+        self
+    }
 }
 
 // The verdict, and the kind's number as lent.
