@@ -19,7 +19,7 @@ use Rattle.model.specs.Kinds.{isCost}
 use Rattle.model.specs.Tables.{Model, Claim, states, actions, branches, firstBranch, destination, weight, scale, cost, claim, rank}
 use Rattle.model.specs.Answers.{pass, tried, each, require, throughout}
 use Rattle.model.specs.Checked.{accepts}
-use Rattle.model.specs.Refusals.{between, entries, greatestClaim, weightScaleTest, claimScaleTest, statesTest, lengthTest, modelLengths, claimLengths, startRight, startsTest, marksTest, branchTest, totalTest, actionTest, walkTest, rowTests, costsTest, claimsTest, ranksTest, sizeTests, rangeTests, tests}
+use Rattle.model.specs.Refusals.{between, entries, limitOf, weightScaleTest, claimScaleTest, statesTest, lengthTest, modelLengths, claimLengths, startRight, startsTest, marksTest, branchTest, totalTest, actionTest, walkTest, rowTests, costsTest, claimsTest, ranksTest, sizeTests, rangesOf, rangeTests, tests}
 use Rattle.model.specs.WellFormed.{Sized, Starts, Row, Counted, InRange, WellFormed}
 use Rattle.model.proofs.Tried.{AllPass, all-append, append-all, tried-passed, tried-all, tried-last, require-right, right-require, passes-require, each-all, each-last, all-each, throughout-all, all-throughout}
 
@@ -248,20 +248,20 @@ cases-rank r n (inr p) = or-right (ltb r n) (eqb r none) (eq→eqb r none p)
 
 module _ (k : Kind) (t : Model) (u : Claim) where
   pub in-range : AllPass (rangeTests k t u) → InRange k t u
-  unfolding rangeTests costsTest claimsTest ranksTest
+  unfolding rangeTests rangesOf costsTest claimsTest ranksTest
   in-range h =
       record {
         costs = λ s l. leb→le (cost u s) mostCost (throughout-all (λ s. leb (cost u s) mostCost) (length (u .costs)) 12 (h .0) s l);
-        claims = λ s l. leb→le (claim u s) (greatestClaim k u) (throughout-all (λ s. leb (claim u s) (greatestClaim k u)) (length (u .claims)) 13 (h .1 .0) s l);
+        claims = λ s l. leb→le (claim u s) (limitOf k (u .c)) (throughout-all (λ s. leb (claim u s) (limitOf k (u .c))) (length (u .claims)) 13 (h .1 .0) s l);
         ranks = λ s l. rank-cases (rank u s) (states t) (throughout-all (λ s. ltb (rank u s) (states t) || eqb (rank u s) none) (length (u .ranks)) 14 (h .1 .1 .0) s l);
       }
 
   pub of-in-range : InRange k t u → AllPass (rangeTests k t u)
-  unfolding rangeTests costsTest claimsTest ranksTest
+  unfolding rangeTests rangesOf costsTest claimsTest ranksTest
   of-in-range w = (
     rw (all-throughout (λ s. leb (cost u s) mostCost) (length (u .costs)) 12 (λ s l. le→leb (cost u s) mostCost (w .costs s l))) tt,
     (
-      rw (all-throughout (λ s. leb (claim u s) (greatestClaim k u)) (length (u .claims)) 13 (λ s l. le→leb (claim u s) (greatestClaim k u) (w .claims s l))) tt,
+      rw (all-throughout (λ s. leb (claim u s) (limitOf k (u .c))) (length (u .claims)) 13 (λ s l. le→leb (claim u s) (limitOf k (u .c)) (w .claims s l))) tt,
       (
         rw (all-throughout (λ s. ltb (rank u s) (states t) || eqb (rank u s) none) (length (u .ranks)) 14 (λ s l. cases-rank (rank u s) (states t) (w .ranks s l))) tt,
         tt,

@@ -211,6 +211,10 @@ module _ (right : ℕ → Bool) (n k : ℕ) where
       by (inl q) = omega (arith, low .high)
       by (inr q) = absurd (subst T (not-true (right (first (λ j. not (right j)) 0 n)) (low .hit q)) (p (first (λ j. not (right j)) 0 n) q))
 
+  pub throughout-word : tried (throughout right n k ∷ []) pass ≡ throughout right n k
+  unfolding tried
+  throughout-word = settled (throughout right n k) (λ h. all-throughout (throughout-all h))
+
 -- the loop that tests a table: right at each index below i
 pub record Through (right : ℕ → Bool) (n i : ℕ) : Type 0 where
   pub seeking : Seeking (λ j. not (right j)) n (first (λ j. not (right j)) 0 n) i

@@ -2,7 +2,8 @@
 use Prim.Native.Nat.{ℕ}
 use mathlib.Core.Bool.{Bool, true, false, cond, _&&_}
 use mathlib.Core.List.{List, _∷_}
-use lib.ListN.{length}
+use lib.Dec.{eqb}
+use lib.ListN.{length, getD}
 use Rattle.walk.specs.Fold.{greatest, listed}
 use Rattle.model.specs.declared.answers.Verdict.{Verdict}
 use Rattle.model.specs.declared.answers.Verdict.the-variants.{Accepted, Refused, Violated}
@@ -10,20 +11,24 @@ use Rattle.model.specs.declared.answers.Answer.{Answer}
 use Rattle.model.specs.declared.kinds.Kind.{Kind}
 use Rattle.model.specs.Limits.{none}
 use Rattle.model.specs.Kinds.{kindOf}
-use Rattle.model.specs.Tables.{Model, Claim, states, target, rank, ranked}
+use Rattle.model.specs.Tables.{Model, Claim, states, target}
 use Rattle.model.specs.Answers.{then, tried, each}
 use Rattle.model.specs.Refusals.{kindTest, tests}
 use Rattle.model.specs.Conditions.{suits, falls, lowestAction, asksFall, judged}
 
+-- a rank that is not none, else 0
+abbrev pub rankOrZero : ℕ → ℕ
+rankOrZero r = cond (eqb r none) 0 r
+
 -- R, the greatest rank that is not none; 0 if there is none or no ranks
-unfoldable pub greatestRank : Claim → ℕ
+unfoldable pub greatestRank : List ℕ → ℕ
 unfolding greatest
-greatestRank u = greatest (λ s. cond (ranked u s) (rank u s) 0) 0 (length (u .ranks))
+greatestRank ranks = greatest (λ s. rankOrZero (getD ranks s 0)) 0 (length ranks)
 
 -- the states in order, and acceptance where none breaks a condition
 unfoldable pub conditions : Kind → Model → Claim → Verdict
 unfolding each judged greatestRank
-conditions k t u = each (judged k t u) 0 (states t) (Accepted (greatestRank u))
+conditions k t u = each (judged k t u) 0 (states t) (Accepted (greatestRank (u .ranks)))
 
 -- the verdict on a claim of kind k
 unfoldable pub verdictOf : Kind → Model → Claim → List ℕ → Verdict

@@ -117,8 +117,8 @@ unfolding throughout
 costsTest costs = throughout (λ s. leb (getD costs s 0) mostCost) (length costs) 12
 
 -- an arrival claim is 0 to C, a cost claim 0 to 1,000,000,000,000
-abbrev pub greatestClaim : Kind → Claim → ℕ
-greatestClaim k u = cond (isCost (k .measure)) mostCostClaim (u .c)
+abbrev pub limitOf : Kind → ℕ → ℕ
+limitOf k c = cond (isCost (k .measure)) mostCostClaim c
 
 -- 13: a claim is 0 to its limit
 unfoldable pub claimsTest : ℕ → List ℕ → Verdict
@@ -126,9 +126,12 @@ unfolding throughout
 claimsTest limit claims = throughout (λ s. leb (getD claims s 0) limit) (length claims) 13
 
 -- 14: a rank is 0 to n - 1, or none
+abbrev pub rankRight : ℕ → ℕ → Bool
+rankRight n r = ltb r n || eqb r none
+
 unfoldable pub ranksTest : ℕ → List ℕ → Verdict
 unfolding throughout
-ranksTest n ranks = throughout (λ s. ltb (getD ranks s 0) n || eqb (getD ranks s 0) none) (length ranks) 14
+ranksTest n ranks = throughout (λ s. rankRight n (getD ranks s 0)) (length ranks) 14
 
 -- 2 to 5: the scales, the number of states and the lengths of the tables
 unfoldable pub sizeTests : Kind → Model → Claim → List ℕ → List Verdict
@@ -136,8 +139,12 @@ sizeTests k t u choices =
     weightScaleTest t ∷ claimScaleTest k u ∷ statesTest t ∷ (modelLengths t ++ claimLengths k t u choices)
 
 -- 12 to 14: costs, claims and ranks in their ranges
+unfoldable pub rangesOf : Kind → ℕ → ℕ → List ℕ → List ℕ → List ℕ → List Verdict
+rangesOf k n c costs claims ranks = costsTest costs ∷ claimsTest (limitOf k c) claims ∷ ranksTest n ranks ∷ []
+
 unfoldable pub rangeTests : Kind → Model → Claim → List Verdict
-rangeTests k t u = costsTest (u .costs) ∷ claimsTest (greatestClaim k u) (u .claims) ∷ ranksTest (states t) (u .ranks) ∷ []
+unfolding rangesOf
+rangeTests k t u = rangesOf k (states t) (u .c) (u .costs) (u .claims) (u .ranks)
 
 -- the refusals 2 to 14 of a claim of kind k, in number order
 unfoldable pub tests : Kind → Model → Claim → List ℕ → List Verdict

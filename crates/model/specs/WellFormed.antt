@@ -10,7 +10,7 @@ use Rattle.model.specs.declared.kinds.Kind.{Kind}
 use Rattle.model.specs.Limits.{mostStates, mostActions, mostBranches, mostWeightScale, mostClaimScale, mostCost, none}
 use Rattle.model.specs.Kinds.{isCost}
 use Rattle.model.specs.Tables.{Model, Claim, states, actions, branches, firstAction, firstBranch, destination, weight, scale, cost, claim, rank}
-use Rattle.model.specs.Refusals.{entries, greatestClaim}
+use Rattle.model.specs.Refusals.{entries, limitOf}
 
 -- 2 to 5: scales, counts and lengths are right
 pub record Sized (k : Kind) (t : Model) (u : Claim) (choices : List ℕ) : Type 0 where
@@ -54,7 +54,7 @@ pub record Counted (t : Model) : Type 0 where
 -- 12 to 14: costs, claims and ranks are in range
 pub record InRange (k : Kind) (t : Model) (u : Claim) : Type 0 where
   pub costs : (s : ℕ) → s < length (u .costs) → cost u s ≤ mostCost
-  pub claims : (s : ℕ) → s < length (u .claims) → claim u s ≤ greatestClaim k u
+  pub claims : (s : ℕ) → s < length (u .claims) → claim u s ≤ limitOf k (u .c)
   pub ranks : (s : ℕ) → s < length (u .ranks) → (rank u s < states t) ⊎ (rank u s ≡ none)
 
 pub record WellFormed (k : Kind) (t : Model) (u : Claim) (choices : List ℕ) : Type 0 where
