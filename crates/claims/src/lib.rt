@@ -8,7 +8,6 @@ ghost use Rattle.model.specs.Checked.{rankOrZero, greatestRank};
 use model::Claim;
 use model::Cost;
 use model::Kind;
-use model::Measure;
 use model::Rank;
 use model::Refusal;
 use model::Verdict;
@@ -82,10 +81,10 @@ fn greatest_claim(kind: Kind, c: u32) -> u64
     ensures { λ r. ⌜ r ≡ limitOf kind c ⌝ }
 {
     let measure = kind.measure;
-    match measure {
-        Measure::Arrival => c as u64,
-        Measure::Cost => Claim::MOST_COST,
+    if measure.is_cost() {
+        return Claim::MOST_COST;
     }
+    c as u64
 }
 
 // Refusals 12 to 14 over n states, in number order; accepted where none stands.

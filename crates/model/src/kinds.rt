@@ -1,10 +1,21 @@
 // The eight kinds of claim, and what each needs, in one fixed table.
 ghost use mathlib.Core.Path.{_≡_};
-ghost use Rattle.model.specs.Kinds.{knownAs};
+ghost use Rattle.model.specs.Kinds.{isCost, isAtLeast, isSome, knownAs};
 
 pub enum Measure {
     Arrival,
     Cost,
+}
+
+impl Measure {
+    pub fn is_cost(self) -> bool
+        ensures { λ r. ⌜ r ≡ isCost self ⌝ }
+    {
+        match self {
+            Measure::Arrival => false,
+            Measure::Cost => true,
+        }
+    }
 }
 
 pub enum Bound {
@@ -12,9 +23,31 @@ pub enum Bound {
     AtLeast,
 }
 
+impl Bound {
+    pub fn is_at_least(self) -> bool
+        ensures { λ r. ⌜ r ≡ isAtLeast self ⌝ }
+    {
+        match self {
+            Bound::AtMost => false,
+            Bound::AtLeast => true,
+        }
+    }
+}
+
 pub enum Who {
     Every,
     Some,
+}
+
+impl Who {
+    pub fn is_some(self) -> bool
+        ensures { λ r. ⌜ r ≡ isSome self ⌝ }
+    {
+        match self {
+            Who::Every => false,
+            Who::Some => true,
+        }
+    }
 }
 
 // What a claim of one kind is about, and whether it has costs, has ranks and writes choices.

@@ -3,7 +3,7 @@ use mathlib.Core.Path.{_≡_, refl, sym, ap, subst, _∙_}
 use mathlib.Core.Bool.{Bool, true, false, cond, not}
 use mathlib.Core.List.{List, [], _∷_, _++_, append-assoc}
 use mathlib.Core.Logic.{_⊎_, inl, inr, ⊎-elim}
-use Prim.Native.Nat.{ℕ, zero, suc, _+_, _-_, _*_, _≤_, _<_, max}
+use Prim.Native.Nat.{ℕ, zero, suc, _+_, _-_, _*_, _≤_, _<_, max, min}
 use native.Mathlib.Nat.{sub-eq-zero-of-le, add-assoc, zero-add, le-refl, le-trans, max-le, le-max-left, le-max-right, mul-le-mul-left, mul-le-mul-right, mul-add, mul-zero, mul-comm}
 use native.Mathlib.Numerals.{add-one}
 use native.Mathlib.Decide.{decLe}
@@ -11,7 +11,7 @@ use native.Mathlib.Omega.{arith}
 use lib.Dec.{T, eqb, ltb}
 use lib.ListN.{length, getD}
 use borrow.Author.Tests.{lt-ltb, le-ltb, ltb-true, ltb-false}
-use Rattle.walk.specs.Fold.{times, from, first, any, all, sum, greatest, listed}
+use Rattle.walk.specs.Fold.{times, from, first, any, all, sum, greatest, least, listed}
 
 -- an index is at the end of its range, or before it
 pub at-end : (i hi : ℕ) → (hi ≤ i) ⊎ (i < hi)
@@ -56,6 +56,19 @@ module _ (p : ℕ → Bool) where
 
   pub first-pass : (lo hi : ℕ) → lo < hi → p lo ≡ false → first p lo hi ≡ first p (lo + 1) hi
   first-pass lo hi h e = first-step lo hi h ∙ rw e
+
+module _ (p : ℕ → Bool) where
+  pub any-end : (lo hi : ℕ) → hi ≤ lo → any p lo hi ≡ false
+  unfolding any
+  any-end lo hi h = rw (first-end p lo hi h) (le-ltb hi hi (le-refl hi))
+
+  pub any-hit : (lo hi : ℕ) → lo < hi → p lo ≡ true → any p lo hi ≡ true
+  unfolding any
+  any-hit lo hi h e = rw (first-hit p lo hi h e) (lt-ltb lo hi h)
+
+  pub any-pass : (lo hi : ℕ) → lo < hi → p lo ≡ false → any p lo hi ≡ any p (lo + 1) hi
+  unfolding any
+  any-pass lo hi h e = rw (first-pass p lo hi h e)
 
 -- what a first index is: within its range, hit there, and passed before
 pub record Lowest (p : ℕ → Bool) (lo hi k : ℕ) : Type 0 where
@@ -210,3 +223,37 @@ le-greatest f hi k = down
     (λ i h ih l u.
     rw (greatest-step f i hi h)
     (⊎-elim (λ w. let q : k ≡ i = omega arith in rw q (omega arith)) (λ w. let b = ih (omega arith) u in omega arith) (at-end i k)))
+
+-- the least is no more than z, and below a number exactly where z or one of them is
+
+module _ (f : ℕ → ℕ) (z : ℕ) where
+  pub least-end : (lo hi : ℕ) → hi ≤ lo → least f z lo hi ≡ z
+  unfolding least
+  least-end lo hi h = from-end (λ i rest. min (f i) rest) z lo hi h
+
+  pub least-step : (lo hi : ℕ) → lo < hi → least f z lo hi ≡ min (f lo) (least f z (lo + 1) hi)
+  unfolding least
+  least-step lo hi h = from-step (λ i rest. min (f i) rest) z lo hi h
+
+  pub least-le : (hi lo : ℕ) → least f z lo hi ≤ z
+  least-le hi = down
+      (λ lo. least f z lo hi ≤ z) hi
+      (λ i h. rw (least-end i hi h) (le-refl z))
+      (λ i h ih. rw (least-step i hi h) (omega arith))
+
+  pub least-below : (r hi lo : ℕ) → r ≤ z → lo ≤ hi → ltb (least f z lo hi) r ≡ any (λ i. ltb (f i) r) lo hi
+  least-below r hi lo q = down
+      (λ lo. lo ≤ hi → ltb (least f z lo hi) r ≡ any (λ i. ltb (f i) r) lo hi) hi
+      (λ i h l. rw (least-end i hi h, any-end (λ i. ltb (f i) r) i hi h) (le-ltb z r q))
+      (λ i h ih l. by i h (ih (omega arith)) (at-end (f i) r))
+      lo
+    where
+      by : (i : ℕ) → i < hi → ltb (least f z (i + 1) hi) r ≡ any (λ i. ltb (f i) r) (i + 1) hi → (r ≤ f i) ⊎ (f i < r) → ltb (least f z i hi) r ≡ any (λ i. ltb (f i) r) i hi
+      by i h ih (inr p) =
+          rw (least-step i hi h, any-hit (λ i. ltb (f i) r) i hi h (lt-ltb (f i) r p)) (lt-ltb (min (f i) (least f z (i + 1) hi)) r (omega arith))
+      by i h ih (inl p) =
+          rw (least-step i hi h, any-pass (λ i. ltb (f i) r) i hi h (le-ltb (f i) r p), ← ih) (same (at-end (least f z (i + 1) hi) r))
+        where
+          same : (r ≤ least f z (i + 1) hi) ⊎ (least f z (i + 1) hi < r) → ltb (min (f i) (least f z (i + 1) hi)) r ≡ ltb (least f z (i + 1) hi) r
+          same (inl g) = rw (le-ltb (least f z (i + 1) hi) r g) (le-ltb (min (f i) (least f z (i + 1) hi)) r (omega arith))
+          same (inr g) = rw (lt-ltb (least f z (i + 1) hi) r g) (lt-ltb (min (f i) (least f z (i + 1) hi)) r (omega arith))

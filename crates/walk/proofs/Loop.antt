@@ -3,13 +3,13 @@
 use mathlib.Core.Path.{_≡_, refl, sym, ap, _∙_}
 use mathlib.Core.Bool.{Bool, true, false}
 use mathlib.Core.List.{List, [], _∷_, _++_, append-assoc}
-use Prim.Native.Nat.{ℕ, suc, _+_, _-_, _≤_, _<_, max, zero-le}
+use Prim.Native.Nat.{ℕ, suc, _+_, _-_, _≤_, _<_, max, min, zero-le}
 use native.Mathlib.Nat.{le-refl, max-zero}
 use native.Mathlib.Numerals.{add-one}
 use native.Mathlib.Omega.{arith}
 use lib.ListN.{length, getD, drop, set, length-append, length-drop}
 use lib.Seq.{drop-cons, set-at, drop-nil, drop-length}
-use Rattle.walk.specs.Fold.{from, first, sum, greatest, listed}
+use Rattle.walk.specs.Fold.{from, first, sum, greatest, least, listed}
 use Rattle.walk.proofs.Fold
 
 -- A walk: what is left from i on comes to the whole.
@@ -83,6 +83,21 @@ module _ {f : ℕ → ℕ} {hi whole i acc : ℕ} (w : Rising f hi whole i acc) 
 
   pub rise-end : hi ≤ i → acc ≡ whole
   rise-end h = omega (arith, Fold.greatest-end f i hi h, w .rest)
+
+-- A minimum: the least so far and that of the rest come to the whole.
+pub record Sinking (f : ℕ → ℕ) (z hi whole i acc : ℕ) : Type 0 where
+  pub high : i ≤ hi
+  pub rest : min acc (least f z i hi) ≡ whole
+
+pub sink-start : (f : ℕ → ℕ) (z lo hi : ℕ) → lo ≤ hi → Sinking f z hi (least f z lo hi) lo z
+sink-start f z lo hi h = record { high = h; rest = omega (arith, Fold.least-le f z hi lo) }
+
+module _ {f : ℕ → ℕ} {z hi whole i acc : ℕ} (w : Sinking f z hi whole i acc) where
+  pub sink-pass : i < hi → (next : ℕ) → next ≡ min acc (f i) → Sinking f z hi whole (i + 1) next
+  sink-pass h next e = record { high = omega arith; rest = omega (arith, Fold.least-step f z i hi h, w .rest, e) }
+
+  pub sink-end : hi ≤ i → acc ≤ z → acc ≡ whole
+  sink-end h l = omega (arith, Fold.least-end f z i hi h, w .rest)
 
 -- A list filled from the front: f of each index below i, then the entries that were there.
 pub record Filling (f : ℕ → ℕ) (start : List ℕ) (hi i : ℕ) (now : List ℕ) : Type 0 where

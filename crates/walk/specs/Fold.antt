@@ -1,5 +1,5 @@
 -- Folds over an index range: what the loops of this project compute.
-use Prim.Native.Nat.{ℕ, zero, suc, _+_, _-_, max}
+use Prim.Native.Nat.{ℕ, zero, suc, _+_, _-_, max, min}
 use mathlib.Core.Bool.{Bool, cond, not, _||_}
 use mathlib.Core.List.{List, [], _∷_}
 use lib.Dec.{eqb, ltb}
@@ -39,6 +39,11 @@ sum f lo hi = from (λ i rest. f i + rest) 0 lo hi
 unfoldable pub greatest : (ℕ → ℕ) → ℕ → ℕ → ℕ
 unfolding from
 greatest f lo hi = from (λ i rest. max (f i) rest) 0 lo hi
+
+-- the least of z and of f over the indices from lo up to, not with, hi
+unfoldable pub least : (ℕ → ℕ) → ℕ → ℕ → ℕ → ℕ
+unfolding from
+least f z lo hi = from (λ i rest. min (f i) rest) z lo hi
 
 -- the values of f at the indices from lo up to, not with, hi
 unfoldable pub listed : (ℕ → ℕ) → ℕ → ℕ → List ℕ

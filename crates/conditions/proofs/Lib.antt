@@ -1,0 +1,2 @@
+mod Action
+mod Weighing
