@@ -6,16 +6,10 @@ use lib.ListN.{length, getD}
 use Rattle.walk.specs.Fold.{sum}
 use Rattle.model.specs.declared.kinds.Kind.{Kind}
 use Rattle.model.specs.Limits.{mostStates, mostActions, mostBranches, mostWeightScale, mostClaimScale, mostCostClaim}
-use Rattle.model.specs.Kinds.{isCost, isAtLeast, isSome}
+use Rattle.model.specs.Kinds.{Columns}
 use Rattle.model.specs.Tables.{Model, Claim, states, branches}
 use Rattle.model.specs.Refusals.{entries}
 use Rattle.model.specs.WellFormed.{Counted, InRange}
-
--- a kind has costs, ranks and choices by its measure, its bound and its strategies
-pub record Columns (k : Kind) : Type 0 where
-  pub costs : k .costs ≡ isCost (k .measure)
-  pub ranks : k .ranks ≡ isAtLeast (k .bound)
-  pub choices : k .choices ≡ isSome (k .who)
 
 pub record Ready (k : Kind) (t : Model) (u : Claim) : Type 0 where
   pub columns : Columns k

@@ -62,16 +62,16 @@ askActions k t number s every some =
     (ask (everyAction t s every) number s (lowestAction t s (λ a. not (every a))))
 
 -- what 21 asks of a target's claim: C (arrival, at most), or 0 (cost, at least); other kinds ask nothing
-unfoldable pub targetClaim : Kind → Claim → ℕ → Bool
-targetClaim k u s =
+unfoldable pub targetAsks : Kind → ℕ → ℕ → Bool
+targetAsks k c claim =
     cond (isCost (k .measure))
-    (cond (isAtLeast (k .bound)) (eqb (claim u s) 0) true)
-    (cond (isAtLeast (k .bound)) true (eqb (claim u s) (u .c)))
+    (cond (isAtLeast (k .bound)) (eqb claim 0) true)
+    (cond (isAtLeast (k .bound)) true (eqb claim c))
 
 -- 21: a target's claim
 unfoldable pub condition21 : Kind → Model → Claim → ℕ → Verdict
-unfolding ask targetClaim
-condition21 k t u s = ask (not (target t s) || targetClaim k u s) 21 s none
+unfolding ask targetAsks
+condition21 k t u s = ask (not (target t s) || targetAsks k (u .c) (claim u s)) 21 s none
 
 -- 22: non-target: all actions suit ("every"), or at least one does ("some")
 unfoldable pub condition22 : Kind → Model → Claim → ℕ → Verdict

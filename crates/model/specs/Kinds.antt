@@ -1,5 +1,6 @@
 -- The eight kinds of claim, and what each needs.
 use Prim.Native.Nat.{ℕ, _-_}
+use mathlib.Core.Path.{_≡_}
 use mathlib.Core.Bool.{Bool, true, false, _&&_, cond}
 use mathlib.Core.List.{List, [], _∷_}
 use lib.Dec.{leb}
@@ -52,3 +53,9 @@ isKind number = leb 1 number && leb number 8
 
 abbrev pub knownAs : ℕ → Known
 knownAs number = cond (isKind number) (As (kindOf number)) Nothing
+
+-- the last three columns of a kind follow from the first three
+pub record Columns (k : Kind) : Type 0 where
+  pub costs : k .costs ≡ isCost (k .measure)
+  pub ranks : k .ranks ≡ isAtLeast (k .bound)
+  pub choices : k .choices ≡ isSome (k .who)
