@@ -15,7 +15,7 @@ use Rattle.walk.proofs.Fold.{at-end, sum-le, sum-times, least-below}
 use Rattle.model.specs.declared.kinds.Kind.{Kind}
 use Rattle.model.specs.Limits.{mostWeightScale, mostClaimScale, mostCostClaim, mostCost, none}
 use Rattle.model.specs.Kinds.{isCost, isAtLeast}
-use Rattle.model.specs.Tables.{Model, Claim, states, actions, branches, firstBranch, destination, weight, cost, claim, rank, ranked}
+use Rattle.model.specs.Tables.{Model, Claim, states, actions, branches, firstAction, firstBranch, destination, weight, cost, claim, rank, ranked}
 use Rattle.model.specs.Refusals.{limitOf}
 use Rattle.model.specs.WellFormed.{Row}
 use Rattle.model.specs.Conditions.{weighted, expected, suits, falls}
@@ -59,6 +59,9 @@ module _ {k : Kind} {t : Model} {u : Claim} (w : Ready k t u) where
   rank-most e s l =
       let q = has-rank e in
       ⊎-elim (λ (p : rank u s < states t). omega (arith, w .n-most)) (λ (p : rank u s ≡ none). omega arith) (w .in-range .ranks s (omega arith))
+
+  pub rising : (s : ℕ) → s < states t → firstAction t s ≤ firstAction t (s + 1)
+  rising s l = le-of-lt (w .counted .action-starts .rises s (omega (arith, w .table2)))
 
   pub due-fits : (s : ℕ) → s < states t → t .d * claim u s ≤ mostWeightScale * mostCostClaim
   due-fits s l = mul-le-mul (w .d-most) (claim-most s l)

@@ -1,2 +1,3 @@
 mod Action
+mod State
 mod Weighing

@@ -152,6 +152,7 @@ fn lowest(
     requires state { ⌜ s < length (now marks) ⌝ }
     requires asking { ⌜ (asked ≡ true → isAtLeast (kind .bound) ≡ true) ⌝ }
     ensures { λ r. ⌜ r ≡ lowestOf kind (modelOf d (now (marks .entry)) (now («action_starts» .entry)) (now («branch_starts» .entry)) (now (destinations .entry)) (now (weights .entry))) (claimOf c (now (costs .entry)) (now (claims .entry)) (now (ranks .entry))) s wanted asked ⌝ }
+    ensures below { λ r. ⌜ r ≤ getD (now («action_starts» .entry)) (s + 1) 0 ⌝ }
 {
     let hi = action_starts[s + 1] as usize;
     let mut a = action_starts[s] as usize;

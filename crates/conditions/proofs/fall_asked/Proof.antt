@@ -1,30 +1,28 @@
+-- `conditions::fall_asked` meets its contract. Assumes nothing.
+use mathlib.Core.Path.{_≡_, sym, _∙_}
+use mathlib.Core.Bool.{true}
+use native.Mathlib.Omega.{arith}
 use borrow.Author.Needs.{needs}
+use borrow.Author.Tests.{not-true, not-false}
+use Rattle.model.specs.Kinds.{isAtLeast}
+use Rattle.model.specs.Conditions.{asksFall}
+use Rattle.conditions.proofs.Action.{has-rank}
 use Rattle.conditions.proofs.fall_asked.Statement.{statement}
 use Rattle.conditions.proofs.fall_asked.Tie as tie
-use Rattle.conditions.proofs.fall_asked.Reads as reads
-use Rattle.conditions.proofs.fall_asked.Lts as lts
-use Rattle.model.proofs.kinds.Bound.is_at_least.Reads as is-at-least-reads
 
--- src/lib.rt:265:9
-is-at-least-requires : tie.Need-is-at-least-requires
-is-at-least-requires c κs = search needs
+least : (c : tie.Else1) → isAtLeast (c .before .before .before .before .before .before .before .before .before .before .args .kind .bound) ≡ true
+least c = sym (c .before .is-at-least .ensures) ∙ not-false _ (c .if1 .left)
 
--- src/lib.rt:266:9
 returns : tie.Need-returns
-returns c = ?
+unfolding asksFall
+returns c = rw (← c .before .is-at-least .ensures, not-true (c .before .is-at-least .result) (c .if1 .taken))
 
--- src/lib.rt:268:5
-mul-result : tie.Need-mul-result
-mul-result c = search needs
-
--- src/lib.rt:268:5
 shared-slice-read-result : tie.Need-shared-slice-read-result
-shared-slice-read-result c = ?
+shared-slice-read-result c = omega (arith, has-rank (c .before .before .before .before .before .before .before .before .before .before .before .pre .0) (least (c .before)), c .before .before .before .before .before .before .before .before .before .before .before .pre .1 .0)
 
--- src/lib.rt:245:1
 returns-2 : tie.Need-returns-2
-returns-2 c = ?
+unfolding asksFall
+returns-2 c = rw (least (c .before), c .before .before .before .before .before .before .before .before .before .before .before .pre .1 .1)
 
 pub fall-asked-spec : {M : Type 1} → statement M
-fall-asked-spec =
-    tie.close (tie.spec is-at-least-requires returns mul-result shared-slice-read-result returns-2)
+fall-asked-spec = tie.close (tie.spec (λ c κs. search needs) returns (λ c. search needs) shared-slice-read-result returns-2)

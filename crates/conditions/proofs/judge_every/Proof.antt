@@ -1,88 +1,58 @@
+-- `conditions::judge_every` meets its contract: what the two sweeps find says which condition breaks first. Assumes nothing.
+use mathlib.Core.Path.{_≡_, sym, _∙_}
+use mathlib.Core.Bool.{false≢true}
+use Prim.Native.Nat.{_+_}
+use native.Mathlib.Omega.{arith}
 use borrow.Author.Needs.{needs}
+use Rattle.conditions.proofs.Action.{rising}
+use Rattle.conditions.proofs.State.{asked-least, every-kept, every-unsuited, every-unfallen}
 use Rattle.conditions.proofs.judge_every.Statement.{statement}
 use Rattle.conditions.proofs.judge_every.Tie as tie
-use Rattle.conditions.proofs.judge_every.Reads as reads
-use Rattle.conditions.proofs.judge_every.Lts as lts
-use Rattle.conditions.proofs.fall_asked.Reads as fall-asked-reads
-use Rattle.conditions.proofs.lowest.Reads as lowest-reads
-use Rattle.conditions.proofs.rank_test.Reads as rank-test-reads
 
--- src/lib.rt:292:9
-fall-asked-requires : tie.Need-fall-asked-requires
-fall-asked-requires c κs = search needs
-
--- src/lib.rt:293:29
-add-end : tie.Need-add-end
-add-end c = search needs
-
--- src/lib.rt:293:15
-mul-end : tie.Need-mul-end
-mul-end c = search needs
-
--- src/lib.rt:293:15
-shared-slice-read-end : tie.Need-shared-slice-read-end
-shared-slice-read-end c = search needs
-
--- src/lib.rt:293:15
 cast-end : tie.Need-cast-end
-cast-end c = ?
+cast-end c = omega (arith, c .shared-slice-known9 .given (c .before .before .before .before .before .before .before .before .before .before .args .s + 1))
 
--- src/lib.rt:294:9
 lowest-requires : tie.Need-lowest-requires
-lowest-requires c κs = ?
+lowest-requires c κs = (c .before .before .before .before .before .before .before .before .before .before .pre .0, (c .before .before .before .before .before .before .before .before .before .before .pre .1 .0, λ e. asked-least _ _ _ _ (sym (c .before .fall-asked .ensures) ∙ e)))
 
--- src/lib.rt:296:9
-rank-test-requires : tie.Need-rank-test-requires
-rank-test-requires c κs = search needs
-
--- src/lib.rt:296:9
 returns : tie.Need-returns
-returns c = ?
+returns c =
+    c .rank-test .ensures
+    ∙ sym
+    (every-kept _ _ _ _ (c .before .before .before .before .before .before .before .before .before .before .before .before .before .pre .1 .1 .0) (rising (c .before .before .before .before .before .before .before .before .before .before .before .before .before .pre .0) _ (c .before .before .before .before .before .before .before .before .before .before .before .before .before .pre .1 .0)) (c .before .before .before .before .before .before .before .before .before .before .before .before .before .pre .1 .1 .1) _ (c .before .before .before .before .fall-asked .ensures)
+    (sym (c .before .before .lowest .ensures .0) ∙ c .before .if1 .taken))
 
--- src/lib.rt:298:9
 lowest-requires-2 : tie.Need-lowest-requires-2
-lowest-requires-2 c κs = ?
+lowest-requires-2 c κs = (c .before .before .before .before .before .before .before .before .before .before .before .before .pre .0, (c .before .before .before .before .before .before .before .before .before .before .before .before .pre .1 .0, λ e. absurd (false≢true e)))
 
--- src/lib.rt:300:69
-cast-t22 : tie.Need-cast-t22
-cast-t22 c = ?
+cast-state : tie.Need-cast-t22
+cast-state c = omega (arith, c .before .before .before .before .before .before .before .before .before .before .before .before .before .before .pre .0 .n-most, c .before .before .before .before .before .before .before .before .before .before .before .before .before .before .pre .1 .0)
 
--- src/lib.rt:300:87
-cast-t23 : tie.Need-cast-t23
-cast-t23 c = ?
+cast-broken : tie.Need-cast-t23
+cast-broken c = omega (arith, c .before .before .before .lowest .ensures .1, c .before .before .before .before .shared-slice-known9 .given (c .before .before .before .before .before .before .before .before .before .before .before .before .before .before .args .s + 1))
 
--- src/lib.rt:300:9
 returns-2 : tie.Need-returns-2
-returns-2 c = ?
+returns-2 c =
+    sym
+    (every-unfallen _ _ _ _ (c .before .before .before .before .before .before .before .before .before .before .before .before .before .before .pre .1 .1 .0) (rising (c .before .before .before .before .before .before .before .before .before .before .before .before .before .before .pre .0) _ (c .before .before .before .before .before .before .before .before .before .before .before .before .before .before .pre .1 .0)) (c .before .before .before .before .before .before .before .before .before .before .before .before .before .before .pre .1 .1 .1) _ (c .before .before .before .before .before .fall-asked .ensures) _
+    (c .before .before .before .lowest .ensures .0) (c .before .before .if1 .left) (c .before .before .before .lowest .ensures .1) (sym (c .before .lowest2 .ensures .0) ∙ c .if2 .taken))
 
--- src/lib.rt:302:58
-cast-t20 : tie.Need-cast-t20
-cast-t20 c = ?
+cast-state-2 : tie.Need-cast-t20
+cast-state-2 c = omega (arith, c .before .before .before .before .before .before .before .before .before .before .before .before .before .before .pre .0 .n-most, c .before .before .before .before .before .before .before .before .before .before .before .before .before .before .pre .1 .0)
 
--- src/lib.rt:302:76
-cast-t24 : tie.Need-cast-t24
-cast-t24 c = ?
+cast-unsuited : tie.Need-cast-t24
+cast-unsuited c = omega (arith, c .before .lowest2 .ensures .1, c .before .before .before .before .shared-slice-known9 .given (c .before .before .before .before .before .before .before .before .before .before .before .before .before .before .args .s + 1))
 
--- src/lib.rt:272:1
 returns-3 : tie.Need-returns-3
-returns-3 c = ?
+returns-3 c =
+    let l = c .before .lowest2 .ensures .1 in
+    let n = c .if2 .left in
+    sym
+    (every-unsuited _ _ _ _ (c .before .before .before .before .before .before .before .before .before .before .before .before .before .before .pre .1 .1 .0) (rising (c .before .before .before .before .before .before .before .before .before .before .before .before .before .before .pre .0) _ (c .before .before .before .before .before .before .before .before .before .before .before .before .before .before .pre .1 .0)) (c .before .before .before .before .before .before .before .before .before .before .before .before .before .before .pre .1 .1 .1) _
+    (c .before .lowest2 .ensures .0) (omega arith))
 
 pub judge-every-spec : {M : Type 1} → statement M
 judge-every-spec =
     tie.close
-    (tie.spec
-    fall-asked-requires
-    add-end
-    mul-end
-    shared-slice-read-end
-    cast-end
-    lowest-requires
-    rank-test-requires
-    returns
-    lowest-requires-2
-    cast-t22
-    cast-t23
-    returns-2
-    cast-t20
-    cast-t24
-    returns-3)
+    (tie.spec (λ c κs. search needs) (λ c. search needs) (λ c. search needs) (λ c. search needs) cast-end lowest-requires (λ c κs. search needs) returns
+    lowest-requires-2 cast-state cast-broken returns-2 cast-state-2 cast-unsuited returns-3)

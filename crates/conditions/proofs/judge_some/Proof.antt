@@ -1,83 +1,63 @@
+-- `conditions::judge_some` meets its contract: what the two sweeps find says which condition breaks first, or the choice.
+-- Assumes nothing.
+use mathlib.Core.Path.{_≡_, sym, ap, _∙_}
+use mathlib.Core.Bool.{Bool, false≢true}
+use Prim.Native.Nat.{ℕ, _+_, _<_, _≤_}
+use native.Mathlib.Omega.{arith}
 use borrow.Author.Needs.{needs}
+use lib.Dec.{T}
+use Rattle.model.specs.Checked.{accepts}
+use Rattle.conditions.proofs.Action.{rising}
+use Rattle.conditions.proofs.State.{asked-least, some-kept, some-picked, some-unsuited, some-unfallen}
 use Rattle.conditions.proofs.judge_some.Statement.{statement}
 use Rattle.conditions.proofs.judge_some.Tie as tie
-use Rattle.conditions.proofs.judge_some.Reads as reads
-use Rattle.conditions.proofs.judge_some.Lts as lts
-use Rattle.conditions.proofs.fall_asked.Reads as fall-asked-reads
-use Rattle.conditions.proofs.lowest.Reads as lowest-reads
-use Rattle.conditions.proofs.rank_test.Reads as rank-test-reads
 
--- src/lib.rt:333:9
-fall-asked-requires : tie.Need-fall-asked-requires
-fall-asked-requires c κs = search needs
-
--- src/lib.rt:334:29
-add-end : tie.Need-add-end
-add-end c = search needs
-
--- src/lib.rt:334:15
-mul-end : tie.Need-mul-end
-mul-end c = search needs
-
--- src/lib.rt:334:15
-shared-slice-read-end : tie.Need-shared-slice-read-end
-shared-slice-read-end c = search needs
-
--- src/lib.rt:334:15
 cast-end : tie.Need-cast-end
-cast-end c = ?
+cast-end c = omega (arith, c .shared-slice-known9 .given (c .before .before .before .before .before .before .before .before .before .before .args .s + 1))
 
--- src/lib.rt:335:9
 lowest-requires : tie.Need-lowest-requires
-lowest-requires c κs = ?
+lowest-requires c κs = (c .before .before .before .before .before .before .before .before .before .before .pre .0, (c .before .before .before .before .before .before .before .before .before .before .pre .1 .0, λ e. asked-least _ _ _ _ (sym (c .before .fall-asked .ensures) ∙ e)))
 
--- src/lib.rt:337:13
-rank-test-requires : tie.Need-rank-test-requires
-rank-test-requires c κs = search needs
+cast-chosen : tie.Need-cast-t25
+cast-chosen c = omega (arith, c .before .before .lowest .ensures .1, c .before .before .before .shared-slice-known9 .given (c .before .before .before .before .before .before .before .before .before .before .before .before .before .args .s + 1))
 
--- src/lib.rt:338:42
-cast-t25 : tie.Need-cast-t25
-cast-t25 c = ?
-
--- src/lib.rt:338:9
 returns : tie.Need-returns
-returns c = ?
+returns c =
+    let e = c .before .before .lowest .ensures .0 in
+    ( c .rank-test .ensures
+      ∙ sym
+      (some-kept _ _ _ _ (c .before .before .before .before .before .before .before .before .before .before .before .before .before .pre .1 .1 .0) (rising (c .before .before .before .before .before .before .before .before .before .before .before .before .before .pre .0) _ (c .before .before .before .before .before .before .before .before .before .before .before .before .before .pre .1 .0)) (c .before .before .before .before .before .before .before .before .before .before .before .before .before .pre .1 .1 .1) _ (c .before .before .before .before .fall-asked .ensures) _ e
+      (c .before .if1 .taken))
+    , λ h. e ∙ some-picked _ _ _ _ (c .before .before .before .before .before .before .before .before .before .before .before .before .before .pre .1 .1 .0) (rising (c .before .before .before .before .before .before .before .before .before .before .before .before .before .pre .0) _ (c .before .before .before .before .before .before .before .before .before .before .before .before .before .pre .1 .0)) (c .before .before .before .before .before .before .before .before .before .before .before .before .before .pre .1 .1 .1) _ (c .before .before .before .before .fall-asked .ensures)
+    )
 
--- src/lib.rt:340:9
 lowest-requires-2 : tie.Need-lowest-requires-2
-lowest-requires-2 c κs = ?
+lowest-requires-2 c κs = (c .before .before .before .before .before .before .before .before .before .before .before .before .pre .0, (c .before .before .before .before .before .before .before .before .before .before .before .before .pre .1 .0, λ e. absurd (false≢true e)))
 
--- src/lib.rt:342:76
-cast-t26 : tie.Need-cast-t26
-cast-t26 c = ?
+cast-state : tie.Need-cast-t26
+cast-state c = omega (arith, c .before .before .before .before .before .before .before .before .before .before .before .before .before .before .pre .0 .n-most, c .before .before .before .before .before .before .before .before .before .before .before .before .before .before .pre .1 .0)
 
--- src/lib.rt:343:9
 returns-2 : tie.Need-returns-2
-returns-2 c = ?
+returns-2 c =
+    let e = c .before .before .before .lowest .ensures .0 in
+    let f = c .before .lowest2 .ensures .0 in
+    let j =
+        some-unfallen _ _ _ _ (c .before .before .before .before .before .before .before .before .before .before .before .before .before .before .pre .1 .1 .0) (rising (c .before .before .before .before .before .before .before .before .before .before .before .before .before .before .pre .0) _ (c .before .before .before .before .before .before .before .before .before .before .before .before .before .before .pre .1 .0)) (c .before .before .before .before .before .before .before .before .before .before .before .before .before .before .pre .1 .1 .1) _ (c .before .before .before .before .before .fall-asked .ensures)
+        _ e (c .before .before .if1 .left) _ f (c .if2 .taken) in
+    (sym j, λ h. absurd (rw j at h))
 
--- src/lib.rt:345:72
-cast-t23 : tie.Need-cast-t23
-cast-t23 c = ?
+cast-state-2 : tie.Need-cast-t23
+cast-state-2 c = omega (arith, c .before .before .before .before .before .before .before .before .before .before .before .before .before .before .pre .0 .n-most, c .before .before .before .before .before .before .before .before .before .before .before .before .before .before .pre .1 .0)
 
--- src/lib.rt:312:1
 returns-3 : tie.Need-returns-3
-returns-3 c = ?
+returns-3 c =
+    let f = c .before .lowest2 .ensures .0 in
+    let j =
+        some-unsuited _ _ _ _ (c .before .before .before .before .before .before .before .before .before .before .before .before .before .before .pre .1 .1 .0) (rising (c .before .before .before .before .before .before .before .before .before .before .before .before .before .before .pre .0) _ (c .before .before .before .before .before .before .before .before .before .before .before .before .before .before .pre .1 .0)) (c .before .before .before .before .before .before .before .before .before .before .before .before .before .before .pre .1 .1 .1) _ f (c .if2 .left) in
+    (sym j, λ h. absurd (rw j at h))
 
 pub judge-some-spec : {M : Type 1} → statement M
 judge-some-spec =
     tie.close
-    (tie.spec
-    fall-asked-requires
-    add-end
-    mul-end
-    shared-slice-read-end
-    cast-end
-    lowest-requires
-    rank-test-requires
-    cast-t25
-    returns
-    lowest-requires-2
-    cast-t26
-    returns-2
-    cast-t23
-    returns-3)
+    (tie.spec (λ c κs. search needs) (λ c. search needs) (λ c. search needs) (λ c. search needs) cast-end lowest-requires (λ c κs. search needs) cast-chosen
+    returns lowest-requires-2 cast-state returns-2 cast-state-2 returns-3)

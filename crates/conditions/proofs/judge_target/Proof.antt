@@ -1,47 +1,22 @@
+-- `conditions::judge_target` meets its contract. Assumes nothing.
+use mathlib.Core.Path.{_≡_, sym, _∙_}
+use native.Mathlib.Omega.{arith}
 use borrow.Author.Needs.{needs}
+use borrow.Author.Tests.{not-true, not-false}
+use Rattle.conditions.proofs.Action.{has-claim}
+use Rattle.conditions.proofs.State.{target-met, target-broken}
 use Rattle.conditions.proofs.judge_target.Statement.{statement}
 use Rattle.conditions.proofs.judge_target.Tie as tie
-use Rattle.conditions.proofs.judge_target.Reads as reads
-use Rattle.conditions.proofs.judge_target.Lts as lts
-use Rattle.conditions.proofs.rank_test.Reads as rank-test-reads
-use Rattle.conditions.proofs.target_claim.Reads as target-claim-reads
 
--- src/lib.rt:238:31
-mul-target-claim : tie.Need-mul-target-claim
-mul-target-claim c = search needs
-
--- src/lib.rt:238:31
-shared-slice-read-target-claim : tie.Need-shared-slice-read-target-claim
-shared-slice-read-target-claim c = search needs
-
--- src/lib.rt:238:9
-target-claim-requires : tie.Need-target-claim-requires
-target-claim-requires c κs = search needs
-
--- src/lib.rt:239:70
-cast-t18 : tie.Need-cast-t18
-cast-t18 c = search needs
-
--- src/lib.rt:239:9
 returns : tie.Need-returns
-returns c = ?
+returns c = sym (target-broken _ _ _ _ (c .before .before .before .before .before .before .before .before .before .before .before .pre .1 .1) (sym (c .before .target-claim .ensures) ∙ not-true _ (c .if1 .taken)))
 
--- src/lib.rt:241:5
-rank-test-requires : tie.Need-rank-test-requires
-rank-test-requires c κs = search needs
-
--- src/lib.rt:219:1
 returns-2 : tie.Need-returns-2
-returns-2 c = ?
+returns-2 c =
+    c .rank-test .ensures ∙ sym (target-met _ _ _ _ (c .before .before .before .before .before .before .before .before .before .before .before .before .pre .1 .1) (sym (c .before .before .target-claim .ensures) ∙ not-false _ (c .before .if1 .left)))
 
 pub judge-target-spec : {M : Type 1} → statement M
 judge-target-spec =
     tie.close
-    (tie.spec
-    mul-target-claim
-    shared-slice-read-target-claim
-    target-claim-requires
-    cast-t18
-    returns
-    rank-test-requires
-    returns-2)
+    (tie.spec (λ c. search needs) (λ c. has-claim (c .before .before .before .before .before .before .before .before .before .pre .0) (c .before .before .before .before .before .before .before .before .before .args .s) (c .before .before .before .before .before .before .before .before .before .pre .1 .0)) (λ c κs. search needs)
+    (λ c. omega (arith, c .before .before .before .before .before .before .before .before .before .before .before .pre .0 .n-most, c .before .before .before .before .before .before .before .before .before .before .before .pre .1 .0)) returns (λ c κs. (c .before .before .before .before .before .before .before .before .before .before .before .pre .0, c .before .before .before .before .before .before .before .before .before .before .before .pre .1 .0)) returns-2)

@@ -2,7 +2,7 @@
 use mathlib.Core.Path.{_≡_, sym, ap, _∙_}
 use mathlib.Core.Bool.{Bool, Bool·beq}
 use Prim.Native.Nat.{ℕ, _+_, _-_, _≤_, _<_}
-use native.Mathlib.Nat.{le-of-lt}
+use native.Mathlib.Nat.{le-refl, le-of-lt}
 use native.Mathlib.Omega.{arith}
 use lib.ListN.{length, getD}
 use borrow.Author.Needs.{needs}
@@ -49,7 +49,10 @@ tested : (c : tie.After-agree Inv-loop μ-loop) → c .agree .result ≡ Bool·b
 tested c = c .agree .ensures ∙ ap (λ (b : Bool). Bool·beq b (c .before .before .before .before .before .before .before .before .before .before .before .before .before .before .args .wanted)) (c .before .judge-action .ensures)
 
 returns : tie.Need-returns Inv-loop μ-loop
-returns c = seek-hit (c .before .before .before .before .loop .inv) (c .before .before .before .loop-test .taken) (sym (tested (c .before)) ∙ c .if1 .taken)
+returns c =
+    ( seek-hit (c .before .before .before .before .loop .inv) (c .before .before .before .loop-test .taken) (sym (tested (c .before)) ∙ c .if1 .taken)
+    , le-of-lt (c .before .before .before .loop-test .taken)
+    )
 
 loop-again : tie.Need-loop-again Inv-loop μ-loop
 loop-again c = seek-pass (c .before .before .before .before .loop .inv) (c .before .before .before .loop-test .taken) (sym (tested (c .before)) ∙ c .if1 .left)
@@ -58,7 +61,7 @@ add-a : tie.Need-add-a Inv-loop μ-loop
 add-a c = omega (arith, c .before .before .before .before .before .before .shared-slice-known9 .given (c .before .before .before .before .before .before .before .before .before .before .before .before .before .before .before .args .s + 1))
 
 returns-2 : tie.Need-returns-2 Inv-loop μ-loop
-returns-2 c = seek-end (c .before .loop .inv) (c .loop-test .left)
+returns-2 c = (seek-end (c .before .loop .inv) (c .loop-test .left), le-refl _)
 
 pub lowest-spec : {M : Type 1} → statement M
 lowest-spec =

@@ -1,61 +1,46 @@
+-- `conditions::rank_test` meets its contract. Assumes nothing.
+use mathlib.Core.Path.{_≡_, sym, _∙_}
+use mathlib.Core.Bool.{true, false}
+use native.Mathlib.Omega.{arith}
 use borrow.Author.Needs.{needs}
+use borrow.Author.Tests.{not-true, not-false, eq-eqb, ne-eqb}
+use lib.ListN.{getD}
+use Rattle.model.specs.Limits.{none}
+use Rattle.model.specs.Kinds.{isAtLeast}
+use Rattle.model.specs.Conditions.{condition23, ask}
+use Rattle.conditions.proofs.Action.{has-rank, has-claim}
 use Rattle.conditions.proofs.rank_test.Statement.{statement}
 use Rattle.conditions.proofs.rank_test.Tie as tie
-use Rattle.conditions.proofs.rank_test.Reads as reads
-use Rattle.conditions.proofs.rank_test.Lts as lts
-use Rattle.model.proofs.kinds.Bound.is_at_least.Reads as is-at-least-reads
 
--- src/lib.rt:188:9
-is-at-least-requires : tie.Need-is-at-least-requires
-is-at-least-requires c κs = search needs
+least : (c : tie.Else1) → isAtLeast (c .before .before .before .before .before .before .before .before .before .before .args .kind .bound) ≡ true
+least c = sym (c .before .is-at-least .ensures) ∙ not-false _ (c .if1 .left)
 
--- src/lib.rt:189:9
 returns : tie.Need-returns
-returns c = ?
+unfolding condition23 ask
+returns c = rw (← c .before .is-at-least .ensures, not-true (c .before .is-at-least .result) (c .if1 .taken))
 
--- src/lib.rt:191:8
-mul-if2 : tie.Need-mul-if2
-mul-if2 c = search needs
-
--- src/lib.rt:191:8
-shared-slice-read-if2 : tie.Need-shared-slice-read-if2
-shared-slice-read-if2 c = search needs
-
--- src/lib.rt:192:9
 returns-2 : tie.Need-returns-2
-returns-2 c = ?
+unfolding condition23 ask
+returns-2 c = rw (least (c .before .before), c .if2 .taken)
 
--- src/lib.rt:194:8
-mul-if3 : tie.Need-mul-if3
-mul-if3 c = search needs
-
--- src/lib.rt:194:8
 shared-slice-read-if3 : tie.Need-shared-slice-read-if3
-shared-slice-read-if3 c = ?
+shared-slice-read-if3 c = omega (arith, has-rank (c .before .before .before .before .before .before .before .before .before .before .before .before .before .pre .0) (least (c .before .before .before)), c .before .before .before .before .before .before .before .before .before .before .before .before .before .pre .1)
 
--- src/lib.rt:195:9
 returns-3 : tie.Need-returns-3
-returns-3 c = ?
+unfolding condition23 ask
+returns-3 c =
+    rw
+    ( least (c .before .before .before .before)
+    , ne-eqb (getD (c .before .before .before .before .before .before .before .before .before .before .before .before .before .before .args .claims .now) (c .before .before .before .before .before .before .before .before .before .before .before .before .before .before .args .s) 0) 0 (c .before .before .if2 .left)
+    , ne-eqb (getD (c .before .before .before .before .before .before .before .before .before .before .before .before .before .before .args .ranks .now) (c .before .before .before .before .before .before .before .before .before .before .before .before .before .before .args .s) 0) none (c .if3 .taken)
+    )
 
--- src/lib.rt:197:59
-cast-t20 : tie.Need-cast-t20
-cast-t20 c = search needs
-
--- src/lib.rt:169:1
 returns-4 : tie.Need-returns-4
-returns-4 c = ?
+unfolding condition23 ask
+returns-4 c = rw (least (c .before .before .before .before), ne-eqb (getD (c .before .before .before .before .before .before .before .before .before .before .before .before .before .before .args .claims .now) (c .before .before .before .before .before .before .before .before .before .before .before .before .before .before .args .s) 0) 0 (c .before .before .if2 .left), c .if3 .left)
 
 pub rank-test-spec : {M : Type 1} → statement M
 rank-test-spec =
     tie.close
-    (tie.spec
-    is-at-least-requires
-    returns
-    mul-if2
-    shared-slice-read-if2
-    returns-2
-    mul-if3
-    shared-slice-read-if3
-    returns-3
-    cast-t20
-    returns-4)
+    (tie.spec (λ c κs. search needs) returns (λ c. search needs) (λ c. has-claim (c .before .before .before .before .before .before .before .before .before .before .before .pre .0) (c .before .before .before .before .before .before .before .before .before .before .before .args .s) (c .before .before .before .before .before .before .before .before .before .before .before .pre .1)) returns-2
+    (λ c. search needs) shared-slice-read-if3 returns-3 (λ c. omega (arith, c .before .before .before .before .before .before .before .before .before .before .before .before .before .before .pre .0 .n-most, c .before .before .before .before .before .before .before .before .before .before .before .before .before .before .pre .1)) returns-4)
