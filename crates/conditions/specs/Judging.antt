@@ -1,15 +1,15 @@
 -- What one action, and one state, is judged by.
 use Prim.Native.Nat.{ℕ, _*_}
 use mathlib.Core.Bool.{Bool, Bool·beq, cond, not, _&&_, _||_}
-use mathlib.Core.List.{List}
-use lib.ListN.{getD}
-use Rattle.walk.specs.Fold.{sum, least}
+use mathlib.Core.List.{List, _++_}
+use lib.ListN.{getD, drop}
+use Rattle.walk.specs.Fold.{first, sum, least, listed}
 use Rattle.model.specs.declared.kinds.Kind.{Kind}
 use Rattle.model.specs.Limits.{none}
 use Rattle.model.specs.Kinds.{isCost, isSome}
-use Rattle.model.specs.Tables.{Model, Claim}
-use Rattle.model.specs.Conditions.{suits, falls, lowestAction}
-use Rattle.model.specs.Checked.{choice}
+use Rattle.model.specs.Tables.{Model, Claim, states}
+use Rattle.model.specs.Conditions.{suits, falls, lowestAction, judged}
+use Rattle.model.specs.Checked.{accepts, choice}
 
 -- the sum over a stretch of branches of weight times the destination's claim, and the least rank of their destinations
 unfoldable pub sumOf : List ℕ → List ℕ → List ℕ → ℕ → ℕ → ℕ
@@ -38,3 +38,13 @@ lowestOf k t u s wanted asked = lowestAction t s (λ a. Bool·beq (keeps k t u s
 unfoldable pub picked : Kind → Model → Claim → ℕ → ℕ
 unfolding choice
 picked k t u s = cond (isSome (k .who)) (choice k t u s) none
+
+-- the lowest state that breaks a condition, or n
+unfoldable pub broken : Kind → Model → Claim → ℕ
+unfolding first judged
+broken k t u = first (λ s. not (accepts (judged k t u s))) 0 (states t)
+
+-- the room for choices once the states are judged: written up to the state that breaks a condition
+unfoldable pub roomOf : Kind → Model → Claim → List ℕ → List ℕ
+unfolding listed picked broken
+roomOf k t u room = listed (picked k t u) 0 (broken k t u) ++ drop (broken k t u) room

@@ -10,7 +10,7 @@ ghost use Rattle.model.specs.Tables.{modelOf, claimOf, target, firstAction};
 ghost use Rattle.model.specs.Conditions.{targetAsks, condition23, asksFall, judged};
 ghost use Rattle.model.specs.Checked.{accepts, conditions};
 ghost use Rattle.conditions.specs.Ready.{Ready, Weighable};
-ghost use Rattle.conditions.specs.Judging.{sumOf, leastOf, stateCost, keeps, lowestOf, picked};
+ghost use Rattle.conditions.specs.Judging.{sumOf, leastOf, stateCost, keeps, lowestOf, picked, roomOf};
 
 use model::Bound;
 use model::Condition;
@@ -345,4 +345,69 @@ fn judge_some(
     }
     let verdict = Verdict::Violated { number: Condition::SUITS, state: s as u32, action: Rank::NONE };
     Judged { verdict, choice: Rank::NONE }
+}
+
+// 21 to 24 at a state, and its choice.
+fn judge_state(
+    kind: Kind,
+    d: u32,
+    c: u32,
+    marks: &[u8],
+    action_starts: &[u32],
+    branch_starts: &[u32],
+    destinations: &[u32],
+    weights: &[u32],
+    costs: &[u32],
+    claims: &[u64],
+    ranks: &[u32],
+    s: usize,
+) -> Judged
+    requires ready { ⌜ Ready kind (modelOf d (now marks) (now «action_starts») (now «branch_starts») (now destinations) (now weights)) (claimOf c (now costs) (now claims) (now ranks)) ⌝ }
+    requires state { ⌜ s < length (now marks) ⌝ }
+    ensures verdict { λ r. ⌜ r .verdict ≡ judged kind (modelOf d (now (marks .entry)) (now («action_starts» .entry)) (now («branch_starts» .entry)) (now (destinations .entry)) (now (weights .entry))) (claimOf c (now (costs .entry)) (now (claims .entry)) (now (ranks .entry))) s ⌝ }
+    ensures choice { λ r. ⌜ (T (accepts (judged kind (modelOf d (now (marks .entry)) (now («action_starts» .entry)) (now («branch_starts» .entry)) (now (destinations .entry)) (now (weights .entry))) (claimOf c (now (costs .entry)) (now (claims .entry)) (now (ranks .entry))) s)) → r .choice ≡ picked kind (modelOf d (now (marks .entry)) (now («action_starts» .entry)) (now («branch_starts» .entry)) (now (destinations .entry)) (now (weights .entry))) (claimOf c (now (costs .entry)) (now (claims .entry)) (now (ranks .entry))) s) ⌝ }
+{
+    if marks[s] == 1 {
+        let verdict = judge_target(kind, d, c, marks, action_starts, branch_starts, destinations, weights, costs, claims, ranks, s);
+        return Judged { verdict, choice: Rank::NONE };
+    }
+    let who = kind.who;
+    if who.is_some() {
+        return judge_some(kind, d, c, marks, action_starts, branch_starts, destinations, weights, costs, claims, ranks, s);
+    }
+    let verdict = judge_every(kind, d, c, marks, action_starts, branch_starts, destinations, weights, costs, claims, ranks, s);
+    Judged { verdict, choice: Rank::NONE }
+}
+
+// The states in order: the first condition that breaks, or acceptance with R. The choices so far go into the room.
+pub fn judge(
+    kind: Kind,
+    d: u32,
+    c: u32,
+    marks: &[u8],
+    action_starts: &[u32],
+    branch_starts: &[u32],
+    destinations: &[u32],
+    weights: &[u32],
+    costs: &[u32],
+    claims: &[u64],
+    ranks: &[u32],
+    room: &mut [u32],
+) -> Verdict
+    requires ready { ⌜ Ready kind (modelOf d (now marks) (now «action_starts») (now «branch_starts») (now destinations) (now weights)) (claimOf c (now costs) (now claims) (now ranks)) ⌝ }
+    requires room { ⌜ length (now marks) ≤ length (now room) ⌝ }
+    ensures verdict { λ r. ⌜ r ≡ conditions kind (modelOf d (now (marks .entry)) (now («action_starts» .entry)) (now («branch_starts» .entry)) (now (destinations .entry)) (now (weights .entry))) (claimOf c (now (costs .entry)) (now (claims .entry)) (now (ranks .entry))) ⌝ }
+    ensures room { λ r. ⌜ now (room .exit) ≡ roomOf kind (modelOf d (now (marks .entry)) (now («action_starts» .entry)) (now («branch_starts» .entry)) (now (destinations .entry)) (now (weights .entry))) (claimOf c (now (costs .entry)) (now (claims .entry)) (now (ranks .entry))) (now (room .entry)) ⌝ }
+{
+    let mut s = 0;
+    while s < marks.len() {
+        let x = judge_state(kind, d, c, marks, action_starts, branch_starts, destinations, weights, costs, claims, ranks, s);
+        let verdict = x.verdict;
+        if !verdict.accepts() {
+            return verdict;
+        }
+        room[s] = x.choice;
+        s += 1;
+    }
+    Verdict::Accepted { rank: claims::greatest_rank(ranks) }
 }
