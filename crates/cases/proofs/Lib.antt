@@ -1,1 +1,3 @@
 pub mod Right
+pub mod Stepped
+pub mod Attained

@@ -1,4 +1,11 @@
 pub mod Owned
 pub mod Tried
+pub mod Found
+pub mod Columns
+pub mod Numbers
 pub mod Formed
 pub mod Rising
+pub mod Kept
+pub mod Chosen
+pub mod Named
+pub mod Tied

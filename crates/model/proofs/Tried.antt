@@ -52,9 +52,21 @@ then-second (Violated k s a) v h = absurd h
 
 -- tests of a list
 
+module _ (P : Verdict → Type 0) where
+  abbrev pub EachOf : List Verdict → Type 0
+  EachOf [] = Unit {0}
+  EachOf (x ∷ xs) = P x × EachOf xs
+
+  pub each-of-append : (xs ys : List Verdict) → EachOf xs → EachOf ys → EachOf (xs ++ ys)
+  each-of-append [] ys g h = h
+  each-of-append (x ∷ xs) ys g h = (g .0, each-of-append xs ys (g .1) h)
+
+pub each-of-map : (P Q : Verdict → Type 0) → ((v : Verdict) → P v → Q v) → (xs : List Verdict) → EachOf P xs → EachOf Q xs
+each-of-map P Q f [] h = tt
+each-of-map P Q f (x ∷ xs) h = (f x (h .0), each-of-map P Q f xs (h .1))
+
 abbrev pub AllPass : List Verdict → Type 0
-AllPass [] = Unit {0}
-AllPass (x ∷ xs) = T (accepts x) × AllPass xs
+AllPass xs = EachOf (λ x. T (accepts x)) xs
 
 pub tried-passed : (xs : List Verdict) (v : Verdict) → AllPass xs → tried xs v ≡ v
 unfolding tried
@@ -103,8 +115,7 @@ all-append [] ys h = (tt, h)
 all-append (x ∷ xs) ys h = let r = all-append xs ys (h .1) in ((h .0, r .0), r .1)
 
 pub append-all : (xs ys : List Verdict) → AllPass xs → AllPass ys → AllPass (xs ++ ys)
-append-all [] ys g h = h
-append-all (x ∷ xs) ys g h = (g .0, append-all xs ys (g .1) h)
+append-all = each-of-append (λ x. T (accepts x))
 
 -- what is required
 

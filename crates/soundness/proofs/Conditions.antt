@@ -1,11 +1,10 @@
 -- What the abstract lemma of demand 3 asks of a process, claims and ranks. Assumes nothing.
 use mathlib.Core.Path.{_≡_}
-use mathlib.Core.Bool.{Bool, true, false}
+use mathlib.Core.Bool.{true, false}
 use mathlib.Core.List.{List}
-use Prim.Native.Nat.{ℕ, _+_, _-_, _*_, _^_, _≤_, _<_}
-use lib.Dec.{T}
+use Prim.Native.Nat.{ℕ, _+_, _*_, _≤_, _<_}
 use Rattle.walk.specs.Fold.{sum}
-use Rattle.soundness.specs.Process.{Process, Step, Strategy, stepped}
+use Rattle.soundness.specs.Process.{Process, Step, Strategy}
 
 -- The states that are within, and the actions allowed at each; no branch of one leads outside.
 pub record Closed (P : Process) (Within : ℕ → Type 0) (Allowed : ℕ → ℕ → Type 0) : Type 0 where
@@ -25,7 +24,6 @@ pub record AtMost (P : Process) (c : ℕ) (claim : ℕ → ℕ) (Within : ℕ �
 -- the conditions of "at least": ranks that fall along a branch of weight at least least out of greatest, up to rank top
 pub record AtLeast (P : Process) (c whole top least greatest : ℕ) (claim rank : ℕ → ℕ) (Within : ℕ → Type 0) (Allowed : ℕ → ℕ → Type 0) : Type 0 where
   pub closed : Closed P Within Allowed
-  pub based : 0 < P .base
   pub part : least ≤ greatest
   pub bounded : (s : ℕ) → Within s → claim s ≤ whole
   pub topped : (s : ℕ) → Within s → 0 < claim s → rank s ≤ top

@@ -3,3 +3,4 @@ pub mod Sums
 pub mod Steps
 pub mod Never
 pub mod Remainder
+pub mod Demand3

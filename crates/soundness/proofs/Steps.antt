@@ -1,10 +1,20 @@
--- What a stepped number is at a stop and after a step. Assumes nothing.
-use mathlib.Core.Path.{_≡_}
+-- What the rest of a strategy sees, and what a stepped number is at a stop and after a step. Assumes nothing.
+use mathlib.Core.Path.{_≡_, refl}
 use mathlib.Core.Bool.{true, false}
-use mathlib.Core.List.{[]}
+use mathlib.Core.List.{List, [], _∷_, _++_}
 use Prim.Native.Nat.{ℕ, zero, suc, _+_, _*_, _^_}
 use Rattle.walk.specs.Fold.{sum}
-use Rattle.soundness.specs.Process.{Process, Strategy, after, stepped}
+use Rattle.soundness.specs.Process.{Process, Step, Strategy, after, stepped}
+
+-- the rest of a strategy after all steps of a past
+abbrev pub afterAll : Strategy → List Step → Strategy
+afterAll σ [] = σ
+afterAll σ (x ∷ past) = afterAll (after σ x) past
+
+-- it picks from the whole of that past, oldest step first, whatever the strategy
+pub sees-all : (σ : Strategy) (past history : List Step) (s : ℕ) → afterAll σ past history s ≡ σ (past ++ history) s
+sees-all σ [] history s = refl
+sees-all σ (x ∷ past) history s = sees-all (after σ x) past history s
 
 -- the rest of a strategy after its own step at s
 abbrev pub later : Strategy → ℕ → Strategy

@@ -1,1 +1,2 @@
 pub mod Process
+pub mod Demand3

@@ -28,3 +28,15 @@ and-left false b h = h
 pub and-right : (a b : Bool) → T (a && b) → T b
 and-right true b h = h
 and-right false b h = absurd h
+
+pub by-not : (b : Bool) → T (not b) → T b → ⊥
+by-not true n h = n
+by-not false n h = h
+
+pub not-by : (b : Bool) → (T b → ⊥) → T (not b)
+not-by true h = h tt
+not-by false h = tt
+
+pub by-contradiction : (b : Bool) → (T (not b) → ⊥) → T b
+by-contradiction true h = tt
+by-contradiction false h = h tt

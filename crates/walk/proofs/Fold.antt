@@ -224,6 +224,20 @@ le-greatest f hi k = down
     rw (greatest-step f i hi h)
     (⊎-elim (λ w. let q : k ≡ i = omega arith in rw q (omega arith)) (λ w. let b = ih (omega arith) u in omega arith) (at-end i k)))
 
+-- it is one of them, or 0
+pub greatest-is : (f : ℕ → ℕ) (hi lo : ℕ) → (greatest f lo hi ≡ 0) ⊎ ((i : ℕ) × (lo ≤ i) × (i < hi) × (f i ≡ greatest f lo hi))
+greatest-is f hi = down
+    (λ lo. (greatest f lo hi ≡ 0) ⊎ ((i : ℕ) × (lo ≤ i) × (i < hi) × (f i ≡ greatest f lo hi))) hi
+    (λ lo h. inl (greatest-end f lo hi h))
+    (λ lo h ih. by lo h ih (at-end (greatest f (lo + 1) hi) (f lo)))
+  where
+    by : (lo : ℕ) → lo < hi → (greatest f (lo + 1) hi ≡ 0) ⊎ ((i : ℕ) × (lo + 1 ≤ i) × (i < hi) × (f i ≡ greatest f (lo + 1) hi))
+        → (f lo ≤ greatest f (lo + 1) hi) ⊎ (greatest f (lo + 1) hi < f lo)
+        → (greatest f lo hi ≡ 0) ⊎ ((i : ℕ) × (lo ≤ i) × (i < hi) × (f i ≡ greatest f lo hi))
+    by lo h (inl z) (inl l) = inl (omega (arith, greatest-step f lo hi h))
+    by lo h (inr w) (inl l) = inr (w .0, omega (arith, w .1), w .2, omega (arith, w .3, greatest-step f lo hi h))
+    by lo h ih (inr l) = inr (lo, le-refl lo, h, omega (arith, greatest-step f lo hi h))
+
 -- the least is no more than z, and below a number exactly where z or one of them is
 
 module _ (f : ℕ → ℕ) (z : ℕ) where

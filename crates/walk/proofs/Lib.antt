@@ -1,3 +1,4 @@
 pub mod Bools
 pub mod Fold
+pub mod Quantified
 pub mod Loop

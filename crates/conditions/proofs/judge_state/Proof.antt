@@ -1,54 +1,33 @@
+-- `conditions::judge_state` meets its contract: a target, or a non-target by the strategies asked for. Assumes nothing.
+use mathlib.Core.Path.{_≡_, sym, _∙_}
+use mathlib.Core.Bool.{true, false}
 use borrow.Author.Needs.{needs}
+use borrow.Author.Tests.{eq-eqb, ne-eqb}
+use Rattle.conditions.proofs.Action.{rising}
+use Rattle.conditions.proofs.State.{target-picked, none-picked}
 use Rattle.conditions.proofs.judge_state.Statement.{statement}
 use Rattle.conditions.proofs.judge_state.Tie as tie
-use Rattle.conditions.proofs.judge_state.Reads as reads
-use Rattle.conditions.proofs.judge_state.Lts as lts
-use Rattle.conditions.proofs.judge_every.Reads as judge-every-reads
-use Rattle.conditions.proofs.judge_some.Reads as judge-some-reads
-use Rattle.conditions.proofs.judge_target.Reads as judge-target-reads
-use Rattle.model.proofs.kinds.Who.is_some.Reads as is-some-reads
 
--- src/lib.rt:370:8
-shared-slice-read-if1 : tie.Need-shared-slice-read-if1
-shared-slice-read-if1 c = search needs
-
--- src/lib.rt:371:13
 judge-target-requires : tie.Need-judge-target-requires
-judge-target-requires c κs = ?
+judge-target-requires c κs = (c .before .before .before .before .before .before .before .before .before .before .pre .0, (c .before .before .before .before .before .before .before .before .before .before .pre .1, eq-eqb _ 1 (c .if1 .taken)))
 
--- src/lib.rt:372:9
 returns : tie.Need-returns
-returns c = ?
+returns c = (c .judge-target .ensures, λ h. target-picked _ _ _ _ (eq-eqb _ 1 (c .before .if1 .taken)))
 
--- src/lib.rt:375:8
-is-some-requires : tie.Need-is-some-requires
-is-some-requires c κs = search needs
-
--- src/lib.rt:376:9
 judge-some-requires : tie.Need-judge-some-requires
-judge-some-requires c κs = ?
+judge-some-requires c κs = (c .before .before .before .before .before .before .before .before .before .before .before .before .pre .0, (c .before .before .before .before .before .before .before .before .before .before .before .before .pre .1, (ne-eqb _ 1 (c .before .before .if1 .left), sym (c .before .is-some .ensures) ∙ c .if2 .taken)))
 
--- src/lib.rt:376:9
-returns-2 : tie.Need-returns-2
-returns-2 c = search needs
-
--- src/lib.rt:378:9
 judge-every-requires : tie.Need-judge-every-requires
-judge-every-requires c κs = ?
+judge-every-requires c κs = (c .before .before .before .before .before .before .before .before .before .before .before .before .pre .0, (c .before .before .before .before .before .before .before .before .before .before .before .before .pre .1, (ne-eqb _ 1 (c .before .before .if1 .left), sym (c .before .is-some .ensures) ∙ c .if2 .left)))
 
--- src/lib.rt:351:1
 returns-3 : tie.Need-returns-3
-returns-3 c = ?
+returns-3 c =
+    ( c .judge-every .ensures
+    , λ h. none-picked _ _ _ _ (ne-eqb _ 1 (c .before .before .before .if1 .left)) (rising (c .before .before .before .before .before .before .before .before .before .before .before .before .before .pre .0) _ (c .before .before .before .before .before .before .before .before .before .before .before .before .before .pre .1)) (sym (c .before .before .is-some .ensures) ∙ c .before .if2 .left)
+    )
 
 pub judge-state-spec : {M : Type 1} → statement M
 judge-state-spec =
     tie.close
-    (tie.spec
-    shared-slice-read-if1
-    judge-target-requires
-    returns
-    is-some-requires
-    judge-some-requires
-    returns-2
-    judge-every-requires
+    (tie.spec (λ c. search needs) judge-target-requires returns (λ c κs. search needs) judge-some-requires (λ c. search needs) judge-every-requires
     returns-3)
