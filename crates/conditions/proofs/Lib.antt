@@ -1,3 +1,4 @@
 mod Action
 mod State
+mod States
 mod Weighing

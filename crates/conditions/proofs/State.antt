@@ -186,7 +186,7 @@ module _ (k : Kind) (t : Model) (u : Claim) (s : ℕ) where
           rw (← f)
           (for-every 24 (falls t u s) (λ a. suits k t u s a && falls t u s a)
           ∙ every-pass (falls t u s) 24 _
-            (none-breaks (falls t u s) (λ a l h. is-true (falls t u s a) (and-right (suits k t u s a) (falls t u s a) (holds (all-keep true e a l h))))))
+          (none-breaks (falls t u s) (λ a l h. is-true (falls t u s a) (and-right (suits k t u s a) (falls t u s a) (holds (all-keep true e a l h))))))
       fall24 false f e = rw (← f)
 
       pub every-kept : (asked : Bool) → asked ≡ asksFall k t u s → lowestOf k t u s false asked ≡ end → judged k t u s ≡ condition23 k u s
@@ -214,7 +214,7 @@ module _ (k : Kind) (t : Model) (u : Claim) (s : ℕ) where
           same i l q = sym (beq-false (keeps k t u s true i) ∙ ap not (true-and (suits k t u s i) (falls t u s i) (all-suit false g i l q)))
 
       pub every-unfallen : (asked : Bool) → asked ≡ asksFall k t u s → (a : ℕ) → a ≡ lowestOf k t u s false asked → (a ≡ end → ⊥) → a ≤ end
-        → lowestOf k t u s false false ≡ end → judged k t u s ≡ Violated 24 s a
+          → lowestOf k t u s false false ≡ end → judged k t u s ≡ Violated 24 s a
       unfolding condition24
       every-unfallen true f a e n l g =
           broken24 a (sym f) (suit22 false g)
@@ -238,7 +238,7 @@ module _ (k : Kind) (t : Model) (u : Claim) (s : ℕ) where
           let suit : keeps k t u s false x ≡ true = unasked (suits k t u s x) (falls t u s x) ∙ is-true (suits k t u s x) (and-left (suits k t u s x) (not asked || falls t u s x) (holds kept)) in
           ⊎-elim
           (λ (q : end ≤ first (λ a. Bool·beq (keeps k t u s false a) true) (firstAction t s) end).
-              absurd (subst T (sym suit ∙ sym (beq-true (keeps k t u s false x)) ∙ v .passed x (w .low) (omega arith)) tt))
+          absurd (subst T (sym suit ∙ sym (beq-true (keeps k t u s false x)) ∙ v .passed x (w .low) (omega arith)) tt))
           (λ (q : first (λ a. Bool·beq (keeps k t u s false a) true) (firstAction t s) end < end). q)
           (at-end (first (λ a. Bool·beq (keeps k t u s false a) true) (firstAction t s) end) end)
 
@@ -257,7 +257,7 @@ module _ (k : Kind) (t : Model) (u : Claim) (s : ℕ) where
       some-kept asked f a e l = let h = rw e at l in met (suit-some (one-suits asked h)) (fall-some asked f h)
 
       picks : picked k t u s
-        ≡ cond (isSome (k .who)) (cond (target t s) none (cond (asksFall k t u s) (lowestAction t s (λ a. suits k t u s a && falls t u s a)) (lowestAction t s (suits k t u s)))) none
+          ≡ cond (isSome (k .who)) (cond (target t s) none (cond (asksFall k t u s) (lowestAction t s (λ a. suits k t u s a && falls t u s a)) (lowestAction t s (suits k t u s)))) none
       unfolding picked choice
       picks = refl
 
@@ -269,7 +269,7 @@ module _ (k : Kind) (t : Model) (u : Claim) (s : ℕ) where
       some-unsuited b e l = let h = rw e at l in broken22 none (for-some 22 (suits k t u s) (suits k t u s) ∙ some-stop (suits k t u s) 22 (rw (← suiting) h))
 
       pub some-unfallen : (asked : Bool) → asked ≡ asksFall k t u s → (a : ℕ) → a ≡ lowestOf k t u s true asked → end ≤ a → (b : ℕ) → b ≡ lowestOf k t u s true false → b < end
-        → judged k t u s ≡ Violated 24 s none
+          → judged k t u s ≡ Violated 24 s none
       unfolding condition24
       some-unfallen true f a e l b d m =
           let h = rw e at l in

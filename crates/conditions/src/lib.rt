@@ -11,7 +11,6 @@ ghost use Rattle.model.specs.Conditions.{targetAsks, condition23, asksFall, jud
 ghost use Rattle.model.specs.Checked.{accepts, conditions};
 ghost use Rattle.conditions.specs.Ready.{Ready, Weighable};
 ghost use Rattle.conditions.specs.Judging.{sumOf, leastOf, stateCost, keeps, lowestOf, picked, roomOf};
-
 use model::Bound;
 use model::Condition;
 use model::Kind;
@@ -40,7 +39,14 @@ pub struct Swept {
     pub least: u32,
 }
 
-fn sweep(lo: usize, hi: usize, destinations: &[u32], weights: &[u32], claims: &[u64], ranks: &[u32]) -> Swept
+fn sweep(
+    lo: usize,
+    hi: usize,
+    destinations: &[u32],
+    weights: &[u32],
+    claims: &[u64],
+    ranks: &[u32],
+) -> Swept
     requires { ⌜ Weighable (now destinations) (now weights) (now claims) lo hi ⌝ }
     requires { ⌜ length (now ranks) ≡ length (now claims) ⌝ }
     ensures { λ r. ⌜ r .sum ≡ sumOf (now (destinations .entry)) (now (weights .entry)) (now (claims .entry)) lo hi ⌝ }
@@ -157,7 +163,22 @@ fn lowest(
     let hi = action_starts[s + 1] as usize;
     let mut a = action_starts[s] as usize;
     while a < hi {
-        let keeps = judge_action(kind, asked, d, c, marks, action_starts, branch_starts, destinations, weights, costs, claims, ranks, s, a);
+        let keeps = judge_action(
+            kind,
+            asked,
+            d,
+            c,
+            marks,
+            action_starts,
+            branch_starts,
+            destinations,
+            weights,
+            costs,
+            claims,
+            ranks,
+            s,
+            a,
+        );
         if agree(keeps, wanted) {
             return a;
         }
@@ -195,7 +216,11 @@ fn rank_test(
     if ranks[s] != Rank::NONE {
         return Verdict::Accepted { rank: 0 };
     }
-    Verdict::Violated { number: Condition::RANKED, state: s as u32, action: Rank::NONE }
+    Verdict::Violated {
+        number: Condition::RANKED,
+        state: s as u32,
+        action: Rank::NONE,
+    }
 }
 
 // What 21 asks of a target's claim: C (arrival, at most), or 0 (cost, at least); other kinds ask nothing.
@@ -237,9 +262,26 @@ fn judge_target(
     ensures { λ r. ⌜ r ≡ judged kind (modelOf d (now (marks .entry)) (now («action_starts» .entry)) (now («branch_starts» .entry)) (now (destinations .entry)) (now (weights .entry))) (claimOf c (now (costs .entry)) (now (claims .entry)) (now (ranks .entry))) s ⌝ }
 {
     if !target_claim(kind, c, claims[s]) {
-        return Verdict::Violated { number: Condition::TARGET, state: s as u32, action: Rank::NONE };
+        return Verdict::Violated {
+            number: Condition::TARGET,
+            state: s as u32,
+            action: Rank::NONE,
+        };
     }
-    rank_test(kind, d, c, marks, action_starts, branch_starts, destinations, weights, costs, claims, ranks, s)
+    rank_test(
+        kind,
+        d,
+        c,
+        marks,
+        action_starts,
+        branch_starts,
+        destinations,
+        weights,
+        costs,
+        claims,
+        ranks,
+        s,
+    )
 }
 
 // 24 is asked at a non-target with a rank, "at least" only.
@@ -290,17 +332,81 @@ fn judge_every(
     requires every { ⌜ isSome (kind .who) ≡ false ⌝ }
     ensures { λ r. ⌜ r ≡ judged kind (modelOf d (now (marks .entry)) (now («action_starts» .entry)) (now («branch_starts» .entry)) (now (destinations .entry)) (now (weights .entry))) (claimOf c (now (costs .entry)) (now (claims .entry)) (now (ranks .entry))) s ⌝ }
 {
-    let asked = fall_asked(kind, d, c, marks, action_starts, branch_starts, destinations, weights, costs, claims, ranks, s);
+    let asked = fall_asked(
+        kind,
+        d,
+        c,
+        marks,
+        action_starts,
+        branch_starts,
+        destinations,
+        weights,
+        costs,
+        claims,
+        ranks,
+        s,
+    );
     let end = action_starts[s + 1] as usize;
-    let broken = lowest(kind, false, asked, d, c, marks, action_starts, branch_starts, destinations, weights, costs, claims, ranks, s);
+    let broken = lowest(
+        kind,
+        false,
+        asked,
+        d,
+        c,
+        marks,
+        action_starts,
+        branch_starts,
+        destinations,
+        weights,
+        costs,
+        claims,
+        ranks,
+        s,
+    );
     if broken == end {
-        return rank_test(kind, d, c, marks, action_starts, branch_starts, destinations, weights, costs, claims, ranks, s);
+        return rank_test(
+            kind,
+            d,
+            c,
+            marks,
+            action_starts,
+            branch_starts,
+            destinations,
+            weights,
+            costs,
+            claims,
+            ranks,
+            s,
+        );
     }
-    let unsuited = lowest(kind, false, false, d, c, marks, action_starts, branch_starts, destinations, weights, costs, claims, ranks, s);
+    let unsuited = lowest(
+        kind,
+        false,
+        false,
+        d,
+        c,
+        marks,
+        action_starts,
+        branch_starts,
+        destinations,
+        weights,
+        costs,
+        claims,
+        ranks,
+        s,
+    );
     if unsuited == end {
-        return Verdict::Violated { number: Condition::FALLS, state: s as u32, action: broken as u32 };
+        return Verdict::Violated {
+            number: Condition::FALLS,
+            state: s as u32,
+            action: broken as u32,
+        };
     }
-    Verdict::Violated { number: Condition::SUITS, state: s as u32, action: unsuited as u32 }
+    Verdict::Violated {
+        number: Condition::SUITS,
+        state: s as u32,
+        action: unsuited as u32,
+    }
 }
 
 // The verdict on one state, and its choice; none for "every" kinds and at targets.
@@ -331,20 +437,93 @@ fn judge_some(
     ensures verdict { λ r. ⌜ r .verdict ≡ judged kind (modelOf d (now (marks .entry)) (now («action_starts» .entry)) (now («branch_starts» .entry)) (now (destinations .entry)) (now (weights .entry))) (claimOf c (now (costs .entry)) (now (claims .entry)) (now (ranks .entry))) s ⌝ }
     ensures choice { λ r. ⌜ (T (accepts (judged kind (modelOf d (now (marks .entry)) (now («action_starts» .entry)) (now («branch_starts» .entry)) (now (destinations .entry)) (now (weights .entry))) (claimOf c (now (costs .entry)) (now (claims .entry)) (now (ranks .entry))) s)) → r .choice ≡ picked kind (modelOf d (now (marks .entry)) (now («action_starts» .entry)) (now («branch_starts» .entry)) (now (destinations .entry)) (now (weights .entry))) (claimOf c (now (costs .entry)) (now (claims .entry)) (now (ranks .entry))) s) ⌝ }
 {
-    let asked = fall_asked(kind, d, c, marks, action_starts, branch_starts, destinations, weights, costs, claims, ranks, s);
+    let asked = fall_asked(
+        kind,
+        d,
+        c,
+        marks,
+        action_starts,
+        branch_starts,
+        destinations,
+        weights,
+        costs,
+        claims,
+        ranks,
+        s,
+    );
     let end = action_starts[s + 1] as usize;
-    let chosen = lowest(kind, true, asked, d, c, marks, action_starts, branch_starts, destinations, weights, costs, claims, ranks, s);
+    let chosen = lowest(
+        kind,
+        true,
+        asked,
+        d,
+        c,
+        marks,
+        action_starts,
+        branch_starts,
+        destinations,
+        weights,
+        costs,
+        claims,
+        ranks,
+        s,
+    );
     if chosen < end {
-        let verdict = rank_test(kind, d, c, marks, action_starts, branch_starts, destinations, weights, costs, claims, ranks, s);
-        return Judged { verdict, choice: chosen as u32 };
+        let verdict = rank_test(
+            kind,
+            d,
+            c,
+            marks,
+            action_starts,
+            branch_starts,
+            destinations,
+            weights,
+            costs,
+            claims,
+            ranks,
+            s,
+        );
+        return Judged {
+            verdict,
+            choice: chosen as u32,
+        };
     }
-    let suited = lowest(kind, true, false, d, c, marks, action_starts, branch_starts, destinations, weights, costs, claims, ranks, s);
+    let suited = lowest(
+        kind,
+        true,
+        false,
+        d,
+        c,
+        marks,
+        action_starts,
+        branch_starts,
+        destinations,
+        weights,
+        costs,
+        claims,
+        ranks,
+        s,
+    );
     if suited < end {
-        let verdict = Verdict::Violated { number: Condition::FALLS, state: s as u32, action: Rank::NONE };
-        return Judged { verdict, choice: Rank::NONE };
+        let verdict = Verdict::Violated {
+            number: Condition::FALLS,
+            state: s as u32,
+            action: Rank::NONE,
+        };
+        return Judged {
+            verdict,
+            choice: Rank::NONE,
+        };
     }
-    let verdict = Verdict::Violated { number: Condition::SUITS, state: s as u32, action: Rank::NONE };
-    Judged { verdict, choice: Rank::NONE }
+    let verdict = Verdict::Violated {
+        number: Condition::SUITS,
+        state: s as u32,
+        action: Rank::NONE,
+    };
+    Judged {
+        verdict,
+        choice: Rank::NONE,
+    }
 }
 
 // 21 to 24 at a state, and its choice.
@@ -368,15 +547,60 @@ fn judge_state(
     ensures choice { λ r. ⌜ (T (accepts (judged kind (modelOf d (now (marks .entry)) (now («action_starts» .entry)) (now («branch_starts» .entry)) (now (destinations .entry)) (now (weights .entry))) (claimOf c (now (costs .entry)) (now (claims .entry)) (now (ranks .entry))) s)) → r .choice ≡ picked kind (modelOf d (now (marks .entry)) (now («action_starts» .entry)) (now («branch_starts» .entry)) (now (destinations .entry)) (now (weights .entry))) (claimOf c (now (costs .entry)) (now (claims .entry)) (now (ranks .entry))) s) ⌝ }
 {
     if marks[s] == 1 {
-        let verdict = judge_target(kind, d, c, marks, action_starts, branch_starts, destinations, weights, costs, claims, ranks, s);
-        return Judged { verdict, choice: Rank::NONE };
+        let verdict = judge_target(
+            kind,
+            d,
+            c,
+            marks,
+            action_starts,
+            branch_starts,
+            destinations,
+            weights,
+            costs,
+            claims,
+            ranks,
+            s,
+        );
+        return Judged {
+            verdict,
+            choice: Rank::NONE,
+        };
     }
     let who = kind.who;
     if who.is_some() {
-        return judge_some(kind, d, c, marks, action_starts, branch_starts, destinations, weights, costs, claims, ranks, s);
+        return judge_some(
+            kind,
+            d,
+            c,
+            marks,
+            action_starts,
+            branch_starts,
+            destinations,
+            weights,
+            costs,
+            claims,
+            ranks,
+            s,
+        );
     }
-    let verdict = judge_every(kind, d, c, marks, action_starts, branch_starts, destinations, weights, costs, claims, ranks, s);
-    Judged { verdict, choice: Rank::NONE }
+    let verdict = judge_every(
+        kind,
+        d,
+        c,
+        marks,
+        action_starts,
+        branch_starts,
+        destinations,
+        weights,
+        costs,
+        claims,
+        ranks,
+        s,
+    );
+    Judged {
+        verdict,
+        choice: Rank::NONE,
+    }
 }
 
 // The states in order: the first condition that breaks, or acceptance with R. The choices so far go into the room.
@@ -401,7 +625,20 @@ pub fn judge(
 {
     let mut s = 0;
     while s < marks.len() {
-        let x = judge_state(kind, d, c, marks, action_starts, branch_starts, destinations, weights, costs, claims, ranks, s);
+        let x = judge_state(
+            kind,
+            d,
+            c,
+            marks,
+            action_starts,
+            branch_starts,
+            destinations,
+            weights,
+            costs,
+            claims,
+            ranks,
+            s,
+        );
         let verdict = x.verdict;
         if !verdict.accepts() {
             return verdict;
@@ -409,5 +646,7 @@ pub fn judge(
         room[s] = x.choice;
         s += 1;
     }
-    Verdict::Accepted { rank: claims::greatest_rank(ranks) }
+    Verdict::Accepted {
+        rank: claims::greatest_rank(ranks),
+    }
 }

@@ -1,87 +1,60 @@
+-- `conditions::judge` meets its contract: the states below s meet their conditions, and their choices stand in the room.
+-- Assumes nothing.
+use mathlib.Core.Path.{_≡_, sym, ap, _∙_}
+use Prim.Native.Nat.{ℕ, _-_}
+use native.Mathlib.Omega.{arith}
+use lib.ListN.{length}
+use borrow.Author.Needs.{needs}
+use Rattle.model.specs.declared.answers.Verdict.{Verdict}
+use Rattle.model.specs.declared.answers.Verdict.the-variants.{Accepted}
+use Rattle.model.specs.Tables.{modelOf, claimOf}
+use Rattle.model.proofs.Tried.{goes, stops}
+use Rattle.conditions.proofs.States.{Going, go-start, go-length, go-pass, go-stop, go-end}
 use Rattle.conditions.proofs.judge.Statement.{statement}
 use Rattle.conditions.proofs.judge.Tie as tie
-use Rattle.conditions.proofs.judge.Reads as reads
-use Rattle.conditions.proofs.judge.Lts as lts
-use Rattle.claims.proofs.greatest_rank.Reads as greatest-rank-reads
-use Rattle.conditions.proofs.judge_state.Reads as judge-state-reads
-use Rattle.model.proofs.answers.Verdict.accepts.Reads as accepts-reads
 
 abbrev Inv-loop : tie.InvT-loop
 Inv-loop kind d c marks action-starts branch-starts destinations weights costs claims ranks room₀ s₀ room s =
-    ?
+    Going kind (modelOf d marks action-starts branch-starts destinations weights) (claimOf c costs claims ranks) room₀ room s
 
 abbrev μ-loop : tie.MeasureT-loop
-μ-loop kind d c marks action-starts branch-starts destinations weights costs claims ranks room₀ s₀ room s =
-    ?
+μ-loop kind d c marks action-starts branch-starts destinations weights costs claims ranks room₀ s₀ room s = length marks - s
 
--- src/lib.rt:403:5
 loop-holds : tie.Need-loop-holds Inv-loop μ-loop
-loop-holds c = ?
+loop-holds c = go-start _ _ _ _ (c .before .before .before .before .before .before .before .before .before .pre .1)
 
--- src/lib.rt:404:13
 judge-state-requires : tie.Need-judge-state-requires Inv-loop μ-loop
-judge-state-requires c κs = ?
+judge-state-requires c κs = (c .before .before .before .before .before .before .before .before .before .before .before .pre .0, c .loop-test .taken)
 
--- src/lib.rt:406:13
-accepts-requires : tie.Need-accepts-requires Inv-loop μ-loop
-accepts-requires c κs = ?
-
--- src/lib.rt:407:13
 same-length : tie.Need-same-length Inv-loop μ-loop
-same-length c = ?
+same-length c = go-length (c .before .before .before .before .loop .inv)
 
--- src/lib.rt:407:13
 returns : tie.Need-returns Inv-loop μ-loop
-returns c = ?
+returns c =
+    let r = go-stop (c .before .before .before .before .loop .inv) (c .before .before .before .loop-test .taken) (stops (c .before .accepts .ensures) (c .if1 .taken) (c .before .before .judge-state .ensures .0)) in
+    (c .before .before .judge-state .ensures .0 ∙ r .0, r .1)
 
--- src/lib.rt:409:9
-mul-room : tie.Need-mul-room Inv-loop μ-loop
-mul-room c = ?
-
--- src/lib.rt:409:9
 slice-write-room : tie.Need-slice-write-room Inv-loop μ-loop
-slice-write-room c = ?
+slice-write-room c = omega (arith, go-length (c .before .before .before .before .loop .inv), c .before .before .before .before .before .before .before .before .before .before .before .before .before .before .pre .1)
 
--- src/lib.rt:410:9
-add-s : tie.Need-add-s Inv-loop μ-loop
-add-s c = ?
+mul-room : tie.Need-mul-room Inv-loop μ-loop
+mul-room c = omega arith
 
--- src/lib.rt:403:5
-loop-less : tie.Need-loop-less Inv-loop μ-loop
-loop-less c = ?
-
--- src/lib.rt:403:5
 loop-again : tie.Need-loop-again Inv-loop μ-loop
-loop-again c = ?
+loop-again c =
+    let p = goes (c .before .accepts .ensures) (c .if1 .left) (c .before .before .judge-state .ensures .0) in
+    go-pass (c .before .before .before .before .loop .inv) (c .before .before .before .loop-test .taken) p _ (c .before .before .judge-state .ensures .1 p)
 
--- src/lib.rt:412:31
-greatest-rank-requires : tie.Need-greatest-rank-requires Inv-loop μ-loop
-greatest-rank-requires c κs = ?
-
--- src/lib.rt:383:1
 same-length-2 : tie.Need-same-length-2 Inv-loop μ-loop
-same-length-2 c = ?
+same-length-2 c = go-length (c .before .before .loop .inv)
 
--- src/lib.rt:383:1
 returns-2 : tie.Need-returns-2 Inv-loop μ-loop
-returns-2 c = ?
+returns-2 c =
+    let r = go-end (c .before .before .loop .inv) (c .before .loop-test .left) in
+    (ap (λ (x : ℕ). Accepted x) (c .greatest-rank .ensures) ∙ r .0, r .1)
 
 pub judge-spec : {M : Type 1} → statement M
 judge-spec =
     tie.close
-    (tie.spec
-    Inv-loop
-    μ-loop
-    loop-holds
-    judge-state-requires
-    accepts-requires
-    same-length
-    returns
-    mul-room
-    slice-write-room
-    add-s
-    loop-less
-    loop-again
-    greatest-rank-requires
-    same-length-2
-    returns-2)
+    (tie.spec Inv-loop μ-loop loop-holds judge-state-requires (λ c κs. search needs) same-length returns mul-room slice-write-room (λ c. omega arith)
+    (λ c. omega arith) loop-again (λ c κs. search needs) same-length-2 returns-2)

@@ -32,10 +32,10 @@ mul-spent : tie.Need-mul-spent
 mul-spent c = omega (arith, spends c, spent-fits (c .before .before .before .before .before .before .before .before .before .before .before .before .pre .0) (c .before .before .before .before .before .before .before .before .before .before .before .before .args .s) (c .before .before .before .before .before .before .before .before .before .before .before .before .pre .1 .0))
 
 sweep-requires : tie.Need-sweep-requires
-sweep-requires c κs =
-    ( weighable (c .before .before .before .before .before .before .before .before .before .before .before .before .before .pre .0) (c .before .before .before .before .before .before .before .before .before .before .before .before .before .args .a) (c .before .before .before .before .before .before .before .before .before .before .before .before .before .pre .1 .1 .1)
-    , has-rank (c .before .before .before .before .before .before .before .before .before .before .before .before .before .pre .0) (c .before .before .before .before .before .before .before .before .before .before .before .before .before .pre .1 .1 .0 (c .if1 .taken)) ∙ sym (c .before .before .before .before .before .before .before .before .before .before .before .before .before .pre .0 .table7)
-    )
+sweep-requires c κs = (
+  weighable (c .before .before .before .before .before .before .before .before .before .before .before .before .before .pre .0) (c .before .before .before .before .before .before .before .before .before .before .before .before .before .args .a) (c .before .before .before .before .before .before .before .before .before .before .before .before .before .pre .1 .1 .1),
+  has-rank (c .before .before .before .before .before .before .before .before .before .before .before .before .before .pre .0) (c .before .before .before .before .before .before .before .before .before .before .before .before .before .pre .1 .1 .0 (c .if1 .taken)) ∙ sym (c .before .before .before .before .before .before .before .before .before .before .before .before .before .pre .0 .table7),
+)
 
 shared-slice-read-if2 : tie.Need-shared-slice-read-if2
 shared-slice-read-if2 c = omega (arith, has-rank (c .before .before .before .before .before .before .before .before .before .before .before .before .before .before .before .pre .0) (c .before .before .before .before .before .before .before .before .before .before .before .before .before .before .before .pre .1 .1 .0 (c .before .before .if1 .taken)), c .before .before .before .before .before .before .before .before .before .before .before .before .before .before .before .pre .1 .0)

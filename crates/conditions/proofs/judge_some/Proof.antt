@@ -23,12 +23,12 @@ cast-chosen c = omega (arith, c .before .before .lowest .ensures .1, c .before .
 
 returns : tie.Need-returns
 returns c =
-    let e = c .before .before .lowest .ensures .0 in
-    ( c .rank-test .ensures
-      ∙ sym
-      (some-kept _ _ _ _ (c .before .before .before .before .before .before .before .before .before .before .before .before .before .pre .1 .1 .0) (rising (c .before .before .before .before .before .before .before .before .before .before .before .before .before .pre .0) _ (c .before .before .before .before .before .before .before .before .before .before .before .before .before .pre .1 .0)) (c .before .before .before .before .before .before .before .before .before .before .before .before .before .pre .1 .1 .1) _ (c .before .before .before .before .fall-asked .ensures) _ e
-      (c .before .if1 .taken))
-    , λ h. e ∙ some-picked _ _ _ _ (c .before .before .before .before .before .before .before .before .before .before .before .before .before .pre .1 .1 .0) (rising (c .before .before .before .before .before .before .before .before .before .before .before .before .before .pre .0) _ (c .before .before .before .before .before .before .before .before .before .before .before .before .before .pre .1 .0)) (c .before .before .before .before .before .before .before .before .before .before .before .before .before .pre .1 .1 .1) _ (c .before .before .before .before .fall-asked .ensures)
+    let e = c .before .before .lowest .ensures .0 in (
+      c .rank-test .ensures
+          ∙ sym
+          (some-kept _ _ _ _ (c .before .before .before .before .before .before .before .before .before .before .before .before .before .pre .1 .1 .0) (rising (c .before .before .before .before .before .before .before .before .before .before .before .before .before .pre .0) _ (c .before .before .before .before .before .before .before .before .before .before .before .before .before .pre .1 .0)) (c .before .before .before .before .before .before .before .before .before .before .before .before .before .pre .1 .1 .1) _ (c .before .before .before .before .fall-asked .ensures) _ e
+          (c .before .if1 .taken)),
+      λ h. e ∙ some-picked _ _ _ _ (c .before .before .before .before .before .before .before .before .before .before .before .before .before .pre .1 .1 .0) (rising (c .before .before .before .before .before .before .before .before .before .before .before .before .before .pre .0) _ (c .before .before .before .before .before .before .before .before .before .before .before .before .before .pre .1 .0)) (c .before .before .before .before .before .before .before .before .before .before .before .before .before .pre .1 .1 .1) _ (c .before .before .before .before .fall-asked .ensures),
     )
 
 lowest-requires-2 : tie.Need-lowest-requires-2
@@ -42,8 +42,8 @@ returns-2 c =
     let e = c .before .before .before .lowest .ensures .0 in
     let f = c .before .lowest2 .ensures .0 in
     let j =
-        some-unfallen _ _ _ _ (c .before .before .before .before .before .before .before .before .before .before .before .before .before .before .pre .1 .1 .0) (rising (c .before .before .before .before .before .before .before .before .before .before .before .before .before .before .pre .0) _ (c .before .before .before .before .before .before .before .before .before .before .before .before .before .before .pre .1 .0)) (c .before .before .before .before .before .before .before .before .before .before .before .before .before .before .pre .1 .1 .1) _ (c .before .before .before .before .before .fall-asked .ensures)
-        _ e (c .before .before .if1 .left) _ f (c .if2 .taken) in
+    some-unfallen _ _ _ _ (c .before .before .before .before .before .before .before .before .before .before .before .before .before .before .pre .1 .1 .0) (rising (c .before .before .before .before .before .before .before .before .before .before .before .before .before .before .pre .0) _ (c .before .before .before .before .before .before .before .before .before .before .before .before .before .before .pre .1 .0)) (c .before .before .before .before .before .before .before .before .before .before .before .before .before .before .pre .1 .1 .1) _ (c .before .before .before .before .before .fall-asked .ensures)
+    _ e (c .before .before .if1 .left) _ f (c .if2 .taken) in
     (sym j, λ h. absurd (rw j at h))
 
 cast-state-2 : tie.Need-cast-t23
@@ -53,7 +53,7 @@ returns-3 : tie.Need-returns-3
 returns-3 c =
     let f = c .before .lowest2 .ensures .0 in
     let j =
-        some-unsuited _ _ _ _ (c .before .before .before .before .before .before .before .before .before .before .before .before .before .before .pre .1 .1 .0) (rising (c .before .before .before .before .before .before .before .before .before .before .before .before .before .before .pre .0) _ (c .before .before .before .before .before .before .before .before .before .before .before .before .before .before .pre .1 .0)) (c .before .before .before .before .before .before .before .before .before .before .before .before .before .before .pre .1 .1 .1) _ f (c .if2 .left) in
+    some-unsuited _ _ _ _ (c .before .before .before .before .before .before .before .before .before .before .before .before .before .before .pre .1 .1 .0) (rising (c .before .before .before .before .before .before .before .before .before .before .before .before .before .before .pre .0) _ (c .before .before .before .before .before .before .before .before .before .before .before .before .before .before .pre .1 .0)) (c .before .before .before .before .before .before .before .before .before .before .before .before .before .before .pre .1 .1 .1) _ f (c .if2 .left) in
     (sym j, λ h. absurd (rw j at h))
 
 pub judge-some-spec : {M : Type 1} → statement M

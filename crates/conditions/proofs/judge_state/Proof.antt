@@ -21,10 +21,10 @@ judge-every-requires : tie.Need-judge-every-requires
 judge-every-requires c κs = (c .before .before .before .before .before .before .before .before .before .before .before .before .pre .0, (c .before .before .before .before .before .before .before .before .before .before .before .before .pre .1, (ne-eqb _ 1 (c .before .before .if1 .left), sym (c .before .is-some .ensures) ∙ c .if2 .left)))
 
 returns-3 : tie.Need-returns-3
-returns-3 c =
-    ( c .judge-every .ensures
-    , λ h. none-picked _ _ _ _ (ne-eqb _ 1 (c .before .before .before .if1 .left)) (rising (c .before .before .before .before .before .before .before .before .before .before .before .before .before .pre .0) _ (c .before .before .before .before .before .before .before .before .before .before .before .before .before .pre .1)) (sym (c .before .before .is-some .ensures) ∙ c .before .if2 .left)
-    )
+returns-3 c = (
+  c .judge-every .ensures,
+  λ h. none-picked _ _ _ _ (ne-eqb _ 1 (c .before .before .before .if1 .left)) (rising (c .before .before .before .before .before .before .before .before .before .before .before .before .before .pre .0) _ (c .before .before .before .before .before .before .before .before .before .before .before .before .before .pre .1)) (sym (c .before .before .is-some .ensures) ∙ c .before .if2 .left),
+)
 
 pub judge-state-spec : {M : Type 1} → statement M
 judge-state-spec =

@@ -49,10 +49,10 @@ tested : (c : tie.After-agree Inv-loop μ-loop) → c .agree .result ≡ Bool·b
 tested c = c .agree .ensures ∙ ap (λ (b : Bool). Bool·beq b (c .before .before .before .before .before .before .before .before .before .before .before .before .before .before .args .wanted)) (c .before .judge-action .ensures)
 
 returns : tie.Need-returns Inv-loop μ-loop
-returns c =
-    ( seek-hit (c .before .before .before .before .loop .inv) (c .before .before .before .loop-test .taken) (sym (tested (c .before)) ∙ c .if1 .taken)
-    , le-of-lt (c .before .before .before .loop-test .taken)
-    )
+returns c = (
+  seek-hit (c .before .before .before .before .loop .inv) (c .before .before .before .loop-test .taken) (sym (tested (c .before)) ∙ c .if1 .taken),
+  le-of-lt (c .before .before .before .loop-test .taken),
+)
 
 loop-again : tie.Need-loop-again Inv-loop μ-loop
 loop-again c = seek-pass (c .before .before .before .before .loop .inv) (c .before .before .before .loop-test .taken) (sym (tested (c .before)) ∙ c .if1 .left)

@@ -29,10 +29,10 @@ shared-slice-read-if3 c = omega (arith, has-rank (c .before .before .before .bef
 returns-3 : tie.Need-returns-3
 unfolding condition23 ask
 returns-3 c =
-    rw
-    ( least (c .before .before .before .before)
-    , ne-eqb (getD (c .before .before .before .before .before .before .before .before .before .before .before .before .before .before .args .claims .now) (c .before .before .before .before .before .before .before .before .before .before .before .before .before .before .args .s) 0) 0 (c .before .before .if2 .left)
-    , ne-eqb (getD (c .before .before .before .before .before .before .before .before .before .before .before .before .before .before .args .ranks .now) (c .before .before .before .before .before .before .before .before .before .before .before .before .before .before .args .s) 0) none (c .if3 .taken)
+    rw (
+      least (c .before .before .before .before),
+      ne-eqb (getD (c .before .before .before .before .before .before .before .before .before .before .before .before .before .before .args .claims .now) (c .before .before .before .before .before .before .before .before .before .before .before .before .before .before .args .s) 0) 0 (c .before .before .if2 .left),
+      ne-eqb (getD (c .before .before .before .before .before .before .before .before .before .before .before .before .before .before .args .ranks .now) (c .before .before .before .before .before .before .before .before .before .before .before .before .before .before .args .s) 0) none (c .if3 .taken),
     )
 
 returns-4 : tie.Need-returns-4

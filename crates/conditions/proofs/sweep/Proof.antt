@@ -83,10 +83,10 @@ loop-again c =
     }
 
 returns : tie.Need-returns Inv-loop μ-loop
-returns c =
-    ( weigh-end (c .before .loop .inv .weighing) (c .loop-test .left)
-    , sink-end (c .before .loop .inv .sinking) (c .loop-test .left) (c .before .loop .inv .small)
-    )
+returns c = (
+  weigh-end (c .before .loop .inv .weighing) (c .loop-test .left),
+  sink-end (c .before .loop .inv .sinking) (c .loop-test .left) (c .before .loop .inv .small),
+)
 
 pub sweep-spec : {M : Type 1} → statement M
 sweep-spec =
