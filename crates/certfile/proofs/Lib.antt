@@ -1,0 +1,4 @@
+pub mod Named
+pub mod Placed
+pub mod Judged
+pub mod Passed

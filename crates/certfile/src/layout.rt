@@ -1,0 +1,121 @@
+// What a header announces: the entries of each table, and the place of its first.
+ghost use mathlib.Core.Path.{_≡_};
+ghost use Rattle.model.specs.Kinds.{kindOf};
+ghost use Rattle.model.specs.Refusals.{entries};
+ghost use Prim.Native.Nat.{_≤_};
+ghost use lib.ListN.{length};
+ghost use Rattle.wire.specs.Blocks.{size};
+ghost use Rattle.certfile.specs.File.{headerBlocks, headerOf, blocks};
+ghost use Rattle.certfile.specs.Layout.{Small, countsOf, placesOf};
+use crate::Header;
+use model::Known;
+use wire::Width;
+
+// A number for each of the tables 1 to 8: its entries, or the place of its first.
+pub struct Lengths {
+    pub marks: usize,
+    pub action_starts: usize,
+    pub branch_starts: usize,
+    pub destinations: usize,
+    pub weights: usize,
+    pub costs: usize,
+    pub claims: usize,
+    pub ranks: usize,
+}
+
+// The tables that not every kind has.
+struct Optional {
+    costs: bool,
+    ranks: bool,
+}
+
+// Which of them a kind's number has: one that is no kind has neither.
+fn optional_of(kind: u32) -> Optional
+    ensures { λ r. ⌜ (r .costs ≡ kindOf kind .costs) × (r .ranks ≡ kindOf kind .ranks) ⌝ }
+{
+    match model::kind_of(kind) {
+        Known::As(k) => Optional {
+            costs: k.costs,
+            ranks: k.ranks,
+        },
+        Known::Nothing => Optional {
+            costs: false,
+            ranks: false,
+        },
+    }
+}
+
+// The entries of a table that is there, or is not.
+fn entries_of(has: bool, n: usize) -> usize
+    ensures { λ r. ⌜ r ≡ entries has n ⌝ }
+{
+    if has { n } else { 0 }
+}
+
+pub fn counts_of(h: Header) -> Lengths
+    ensures counts { λ r. ⌜ r ≡ countsOf h ⌝ }
+    ensures small { λ r. ⌜ Small r ⌝ }
+{
+    let n = h.n as usize;
+    let m = h.m as usize;
+    let b = h.b as usize;
+    let has = optional_of(h.kind);
+    Lengths {
+        marks: n,
+        action_starts: n + 1,
+        branch_starts: m + 1,
+        destinations: b,
+        weights: b,
+        costs: entries_of(has.costs, n),
+        claims: n,
+        ranks: entries_of(has.ranks, n),
+    }
+}
+
+pub fn places_of(h: Header) -> Lengths
+    ensures { λ r. ⌜ r ≡ placesOf h ⌝ }
+{
+    let count = counts_of(h);
+    let marks = Header::BYTES;
+    let action_starts = marks + count.marks * Width::BYTE;
+    let branch_starts = action_starts + count.action_starts * Width::WORD;
+    let destinations = branch_starts + count.branch_starts * Width::WORD;
+    let weights = destinations + count.destinations * Width::WORD;
+    let costs = weights + count.weights * Width::WORD;
+    let claims = costs + count.costs * Width::WORD;
+    let ranks = claims + count.claims * Width::LONG;
+    Lengths {
+        marks,
+        action_starts,
+        branch_starts,
+        destinations,
+        weights,
+        costs,
+        claims,
+        ranks,
+    }
+}
+
+// The bytes of a whole file.
+pub fn length_of(h: Header) -> usize
+    ensures { λ r. ⌜ r ≡ size (blocks h) ⌝ }
+{
+    let count = counts_of(h);
+    let place = places_of(h);
+    place.ranks + count.ranks * Width::WORD
+}
+
+// What the header of a file says.
+pub fn header_of(file: &[u8]) -> Header
+    requires { ⌜ size headerBlocks ≤ length (now file) ⌝ }
+    ensures { λ r. ⌜ r ≡ headerOf (now (file .entry)) ⌝ }
+{
+    Header {
+        kind: reader::byte(file, Header::KIND_AT) as u32,
+        d: reader::number(file, Header::D_AT),
+        c: reader::number(file, Header::C_AT),
+        n: reader::number(file, Header::N_AT),
+        m: reader::number(file, Header::M_AT),
+        b: reader::number(file, Header::B_AT),
+    }
+}

@@ -1,0 +1,3 @@
+pub mod Swap
+pub mod Fill
+pub mod First

@@ -1,0 +1,18 @@
+-- Big-endian words: a number in so many bytes, the highest first.
+use Prim.Native.Nat.{ℕ, zero, suc, _+_, _*_, _/_, _%_, _^_}
+use mathlib.Core.List.{List}
+use lib.ListN.{getD}
+
+-- the number in the width bytes of a file from a place on
+unfoldable pub word : ℕ → List ℕ → ℕ → ℕ
+word zero file at = 0
+word (suc width) file at = getD file at 0 * 256 ^ width + word width file (at + 1)
+
+-- the same with the lowest byte first
+unfoldable pub little : ℕ → List ℕ → ℕ → ℕ
+little zero file at = 0
+little (suc width) file at = getD file at 0 + 256 * little width file (at + 1)
+
+-- the four bytes of a number in the other order
+unfoldable pub reversed : ℕ → ℕ
+reversed x = x % 256 * 16777216 + x / 256 % 256 * 65536 + x / 65536 % 256 * 256 + x / 16777216
