@@ -1,0 +1,50 @@
+-- `report::head` meets its contract: the words of each case go in one after the other. Assumes nothing.
+use mathlib.Core.Path.{sym, ap, _∙_}
+use mathlib.Core.List.{append-assoc}
+use native.Mathlib.Omega.{arith}
+use Rattle.report.specs.Text.{line, headOf}
+use Rattle.report.proofs.Putting.{put-then, put-same}
+use borrow.Author.Needs.{needs}
+use Rattle.report.proofs.head.Statement.{statement}
+use Rattle.report.proofs.head.Tie as tie
+
+returns : tie.Need-returns
+unfolding headOf line
+returns c =
+    let end = c .before .before in
+    let first = end .before .before .before .before in
+    let name = first .before .before .before .before in (
+      put-same (put-then (put-then (name .word .ensures) (first .spaced .ensures .0)) (end .byte .ensures)) ((simp append-assoc) ∙ sym (ap headOf (name .before .before .before .before .verdict .given .1))),
+      omega (arith, name .word .ensures .next, first .spaced .ensures .1, end .byte .ensures .next),
+    )
+
+returns-2 : tie.Need-returns-2
+unfolding headOf line
+returns-2 c =
+    let end = c .before .before in
+    let second = end .before .before .before .before in
+    let first = second .before .before .before .before in
+    let name = first .before .before .before .before in (
+      put-same (put-then (put-then (put-then (name .word2 .ensures) (first .spaced2 .ensures .0)) (second .spaced3 .ensures .0)) (end .byte2 .ensures)) ((simp append-assoc) ∙ sym (ap headOf (name .before .before .before .before .verdict2 .given .1))),
+      omega (arith, name .word2 .ensures .next, first .spaced2 .ensures .1, second .spaced3 .ensures .1, end .byte2 .ensures .next),
+    )
+
+returns-3 : tie.Need-returns-3
+unfolding headOf line
+returns-3 c =
+    let end = c .before .before in
+    let third = end .before .before .before .before in
+    let second = third .before .before .before .before in
+    let first = second .before .before .before .before in
+    let name = first .before .before .before .before in (
+      put-same (put-then (put-then (put-then (put-then (name .word3 .ensures) (first .spaced4 .ensures .0)) (second .spaced5 .ensures .0)) (third .action .ensures .0)) (end .byte3 .ensures)) ((simp append-assoc) ∙ sym (ap headOf (name .before .before .before .before .verdict3 .given .1))),
+      omega (arith, name .word3 .ensures .next, first .spaced4 .ensures .1, second .spaced5 .ensures .1, third .action .ensures .1, end .byte3 .ensures .next),
+    )
+
+pub head-spec : {M : Type 1} → statement M
+head-spec =
+    tie.close
+    (tie.spec (λ c. search needs) (λ c. search needs) (λ c κs. search needs) (λ c κs. search needs) (λ c κs. search needs) (λ c. search needs)
+    (λ c. search needs) (λ c κs. search needs) (λ c κs. search needs) (λ c κs. search needs) (λ c κs. search needs) (λ c. search needs)
+    (λ c. search needs) (λ c κs. search needs) (λ c κs. search needs) (λ c κs. search needs) (λ c κs. search needs) (λ c κs. search needs)
+    (λ c. search needs) returns (λ c. search needs) returns-2 (λ c. search needs) returns-3)
