@@ -11,7 +11,7 @@ use Rattle.model.specs.declared.kinds.Known.{Known}
 use Rattle.model.specs.declared.kinds.Known.the-variants.{As, Nothing}
 use Rattle.model.specs.Kinds.{kinds, kindOf, isKind, knownAs}
 
-abbrev first : Kind
+abbrev pub first : Kind
 first = kindOf 1
 
 abbrev pick : Bool → Kind → Known
@@ -31,14 +31,15 @@ named number k e = picked (isKind number) (kindOf number) k e
 pub unnamed : (number : ℕ) → knownAs number ≡ Nothing → isKind number ≡ false
 unnamed number e = missed (isKind number) (kindOf number) e
 
--- a number that is no kind has neither costs nor ranks
-pub neither : (number : ℕ) → isKind number ≡ false → (kindOf number .costs ≡ false) × (kindOf number .ranks ≡ false)
-neither number e = by (leb 1 number) refl (leb number 8) refl
+-- a number that is no kind is taken for the first
+pub as-first : (number : ℕ) → isKind number ≡ false → kindOf number ≡ first
+as-first number e = by (leb 1 number) refl (leb number 8) refl
   where
-    past : (i : ℕ) → 8 ≤ i → (getD kinds i first .costs ≡ false) × (getD kinds i first .ranks ≡ false)
-    past i h = rw (List·getD-eq-default kinds first {n = i} h) (refl, refl)
-
-    by : (p : Bool) → leb 1 number ≡ p → (q : Bool) → leb number 8 ≡ q → (kindOf number .costs ≡ false) × (kindOf number .ranks ≡ false)
-    by false f q g = let z : number ≡ 0 = omega (arith, leb-false 1 number f) in rw z (refl, refl)
-    by true f false g = past (number - 1) (omega (arith, leb-false number 8 g))
+    by : (p : Bool) → leb 1 number ≡ p → (q : Bool) → leb number 8 ≡ q → kindOf number ≡ first
+    by false f q g = let z : number ≡ 0 = omega (arith, leb-false 1 number f) in rw z
+    by true f false g = List·getD-eq-default kinds first {n = number - 1} (omega (arith, leb-false number 8 g))
     by true f true g = let z : true ≡ false = sym (rw (f, g) refl) ∙ e in absurd (subst T z tt)
+
+-- so it has neither costs nor ranks
+pub neither : (number : ℕ) → isKind number ≡ false → (kindOf number .costs ≡ false) × (kindOf number .ranks ≡ false)
+neither number e = rw (as-first number e) (refl, refl)
