@@ -16,7 +16,7 @@ use Rattle.model.specs.Limits.{mostStates, mostWeightScale, mostClaimSca
 use Rattle.model.specs.Kinds.{isCost, isAtLeast, isSome, kindOf, isKind}
 use Rattle.model.specs.Tables.{Model, Claim, states, actions, branches, target, firstBranch, destination, weight, scale, cost, claim, rank, ranked}
 use Rattle.model.specs.Answers.{number, value, action, isCondition, proper, pass, require, throughout}
-use Rattle.model.specs.Refusals.{between, limitOf, rankRight, startRight, kindTest, weightScaleTest, claimScaleTest, statesTest, lengthTest, modelLengths, claimLengths, startsTest, marksTest, branchTest, totalTest, actionTest, walkTest, rowTests, costsTest, claimsTest, ranksTest, sizeTests, rangesOf, rangeTests, tests}
+use Rattle.model.specs.Refusals.{between, limitOf, rankRight, startRight, kindTest, weightScaleTest, claimScaleTest, statesTest, lengthTest, lengthsOf, modelLengths, claimLengths, startsTest, marksTest, branchTest, totalTest, actionTest, walkTest, rowTests, costsTest, claimsTest, ranksTest, sizeTests, rangesOf, rangeTests, tests}
 use Rattle.model.specs.Conditions.{suits, falls, everyAction, someAction, lowestAction, ask, askActions, targetAsks, condition21, condition22, condition23, asksFall, condition24, judged}
 use Rattle.model.specs.Checked.{greatestRank, conditions, verdictOf, answerOf}
 use Rattle.model.proofs.Tried.{EachOf, each-of-append, each-of-map}
@@ -82,7 +82,7 @@ module _ (t : Model) where
   )
 
 module _ (k : Kind) (t : Model) (u : Claim) (choices : List ℕ) where
-  scales-refuse : T (refuses (weightScaleTest t)) × T (refuses (claimScaleTest k u)) × T (refuses (statesTest t))
+  scales-refuse : T (refuses (weightScaleTest (t .d))) × T (refuses (claimScaleTest k (u .c))) × T (refuses (statesTest (states t)))
   unfolding weightScaleTest claimScaleTest statesTest
   scales-refuse = (
     require-refuses (between 1 mostWeightScale (t .d)) 2 0 tt,
@@ -90,7 +90,7 @@ module _ (k : Kind) (t : Model) (u : Claim) (choices : List ℕ) where
     require-refuses (between 1 mostStates (states t)) 4 0 tt,
   )
 
-  lengths-refuse : EachOf (λ v. T (refuses v)) (modelLengths t ++ claimLengths k t u choices)
+  lengths-refuse : EachOf (λ v. T (refuses v)) (modelLengths (lengthsOf t u choices) ++ claimLengths k (lengthsOf t u choices))
   unfolding modelLengths claimLengths
   lengths-refuse = (
     length-refuses 2 _,

@@ -54,8 +54,12 @@ accepts (Accepted r) = true
 accepts (Refused k p) = false
 accepts (Violated k s a) = false
 
--- the choice list at exit: written whole on acceptance of a "some" kind, and else as it was
+-- the choice list after a verdict: written whole on acceptance of a "some" kind, and else as it was
+unfoldable pub chosenOf : Kind → Model → Claim → List ℕ → Verdict → List ℕ
+unfolding choice listed
+chosenOf k t u choices v = cond (accepts v && (k .choices)) (listed (choice k t u) 0 (states t)) choices
+
+-- the choice list at exit
 unfoldable pub choicesOf : ℕ → Model → Claim → List ℕ → List ℕ
-unfolding answerOf choice listed
-choicesOf kind t u choices =
-    cond (accepts (answerOf kind t u choices .verdict) && (kindOf kind .choices)) (listed (choice (kindOf kind) t u) 0 (states t)) choices
+unfolding answerOf chosenOf
+choicesOf kind t u choices = chosenOf (kindOf kind) t u choices (answerOf kind t u choices .verdict)

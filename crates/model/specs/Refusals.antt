@@ -7,6 +7,7 @@ use lib.ListN.{length, getD}
 use Rattle.walk.specs.Fold.{sum}
 use Rattle.model.specs.declared.answers.Verdict.{Verdict}
 use Rattle.model.specs.declared.kinds.Kind.{Kind}
+use Rattle.model.specs.declared.limits.Lengths.{Lengths}
 use Rattle.model.specs.Limits.{mostStates, mostActions, mostBranches, mostWeightScale, mostClaimScale, mostCost, mostCostClaim, none}
 use Rattle.model.specs.Kinds.{isCost, isKind}
 use Rattle.model.specs.Tables.{Model, Claim, states, actions, branches, firstAction, firstBranch, destination, weight, scale}
@@ -21,19 +22,23 @@ unfolding require
 kindTest kind = require (isKind kind) 1 0
 
 -- 2: D is 1 to 1,000,000
-unfoldable pub weightScaleTest : Model → Verdict
+unfoldable pub weightScaleTest : ℕ → Verdict
 unfolding require
-weightScaleTest t = require (between 1 mostWeightScale (t .d)) 2 0
+weightScaleTest d = require (between 1 mostWeightScale d) 2 0
 
--- 3: C is 1 to 1,000,000,000; for cost kinds exactly 1
-unfoldable pub claimScaleTest : Kind → Claim → Verdict
+-- C is 1 to 1,000,000,000; for cost kinds exactly 1
+abbrev pub claimScaleRight : Kind → ℕ → Bool
+claimScaleRight k c = cond (isCost (k .measure)) (eqb c 1) (between 1 mostClaimScale c)
+
+-- 3: so is C
+unfoldable pub claimScaleTest : Kind → ℕ → Verdict
 unfolding require
-claimScaleTest k u = require (cond (isCost (k .measure)) (eqb (u .c) 1) (between 1 mostClaimScale (u .c))) 3 0
+claimScaleTest k c = require (claimScaleRight k c) 3 0
 
 -- 4: there are 1 to 20,000 states
-unfoldable pub statesTest : Model → Verdict
+unfoldable pub statesTest : ℕ → Verdict
 unfolding require
-statesTest t = require (between 1 mostStates (states t)) 4 0
+statesTest n = require (between 1 mostStates n) 4 0
 
 -- 5: a table has the length that it should have
 unfoldable pub lengthTest : ℕ → Bool → Verdict
@@ -44,20 +49,36 @@ lengthTest table right = require right 5 table
 abbrev pub entries : Bool → ℕ → ℕ
 entries has n = cond has n 0
 
-unfoldable pub modelLengths : Model → List Verdict
-modelLengths t =
-    lengthTest 2 (eqb (length (t .actionStarts)) (states t + 1))
-    ∷ lengthTest 3 (between 2 (mostActions + 1) (length (t .branchStarts)))
-    ∷ lengthTest 4 (leb (branches t) mostBranches)
-    ∷ lengthTest 5 (eqb (length (t .weights)) (branches t))
+-- the lengths of tables 1 to 9
+abbrev pub lengthsOf : Model → Claim → List ℕ → Lengths
+lengthsOf t u choices =
+    record {
+      table1 = length (t .marks);
+      table2 = length (t .actionStarts);
+      table3 = length (t .branchStarts);
+      table4 = length (t .destinations);
+      table5 = length (t .weights);
+      table6 = length (u .costs);
+      table7 = length (u .claims);
+      table8 = length (u .ranks);
+      table9 = length choices;
+    }
+
+-- tables 2 to 5, by n, m and b; and tables 6 to 9, by n and the kind
+unfoldable pub modelLengths : Lengths → List Verdict
+modelLengths l =
+    lengthTest 2 (eqb (l .table2) (l .table1 + 1))
+    ∷ lengthTest 3 (between 2 (mostActions + 1) (l .table3))
+    ∷ lengthTest 4 (leb (l .table4) mostBranches)
+    ∷ lengthTest 5 (eqb (l .table5) (l .table4))
     ∷ []
 
-unfoldable pub claimLengths : Kind → Model → Claim → List ℕ → List Verdict
-claimLengths k t u choices =
-    lengthTest 6 (eqb (length (u .costs)) (entries (k .costs) (states t)))
-    ∷ lengthTest 7 (eqb (length (u .claims)) (states t))
-    ∷ lengthTest 8 (eqb (length (u .ranks)) (entries (k .ranks) (states t)))
-    ∷ lengthTest 9 (eqb (length choices) (entries (k .choices) (states t)))
+unfoldable pub claimLengths : Kind → Lengths → List Verdict
+claimLengths k l =
+    lengthTest 6 (eqb (l .table6) (entries (k .costs) (l .table1)))
+    ∷ lengthTest 7 (eqb (l .table7) (l .table1))
+    ∷ lengthTest 8 (eqb (l .table8) (entries (k .ranks) (l .table1)))
+    ∷ lengthTest 9 (eqb (l .table9) (entries (k .choices) (l .table1)))
     ∷ []
 
 -- the first start is 0, and any other is above the one before it
@@ -134,9 +155,12 @@ unfolding throughout
 ranksTest n ranks = throughout (λ s. rankRight n (getD ranks s 0)) (length ranks) 14
 
 -- 2 to 5: the scales, the number of states and the lengths of the tables
+unfoldable pub sizesOf : Kind → ℕ → ℕ → Lengths → List Verdict
+sizesOf k d c l = weightScaleTest d ∷ claimScaleTest k c ∷ statesTest (l .table1) ∷ (modelLengths l ++ claimLengths k l)
+
 unfoldable pub sizeTests : Kind → Model → Claim → List ℕ → List Verdict
-sizeTests k t u choices =
-    weightScaleTest t ∷ claimScaleTest k u ∷ statesTest t ∷ (modelLengths t ++ claimLengths k t u choices)
+unfolding sizesOf
+sizeTests k t u choices = sizesOf k (t .d) (u .c) (lengthsOf t u choices)
 
 -- 12 to 14: costs, claims and ranks in their ranges
 unfoldable pub rangesOf : Kind → ℕ → ℕ → List ℕ → List ℕ → List ℕ → List Verdict

@@ -16,6 +16,7 @@ pub use kinds::Who;
 pub use kinds::kind_of;
 pub use limits::Claim;
 pub use limits::Cost;
+pub use limits::Lengths;
 pub use limits::Model;
 pub use limits::Rank;
 pub use limits::Weight;

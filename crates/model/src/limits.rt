@@ -42,3 +42,16 @@ pub struct Rank {}
 impl Rank {
     pub const NONE: u32 = 4_294_967_295;
 }
+
+// The lengths of tables 1 to 9.
+pub struct Lengths {
+    pub table1: usize,
+    pub table2: usize,
+    pub table3: usize,
+    pub table4: usize,
+    pub table5: usize,
+    pub table6: usize,
+    pub table7: usize,
+    pub table8: usize,
+    pub table9: usize,
+}

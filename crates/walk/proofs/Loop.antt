@@ -4,11 +4,11 @@ use mathlib.Core.Path.{_≡_, refl, sym, ap, _∙_}
 use mathlib.Core.Bool.{Bool, true, false}
 use mathlib.Core.List.{List, [], _∷_, _++_, append-assoc}
 use Prim.Native.Nat.{ℕ, suc, _+_, _-_, _≤_, _<_, max, min, zero-le}
-use native.Mathlib.Nat.{le-refl, max-zero}
+use native.Mathlib.Nat.{le-refl, zero-add}
 use native.Mathlib.Numerals.{add-one}
 use native.Mathlib.Omega.{arith}
-use lib.ListN.{length, getD, drop, set, length-append, length-drop}
-use lib.Seq.{drop-cons, set-at, drop-nil, drop-length}
+use lib.ListN.{length, getD, take, drop, set, length-append, length-drop}
+use lib.Seq.{drop-cons, set-at, ext-getD, getD-take, length-take-le}
 use Rattle.walk.specs.Fold.{from, first, sum, greatest, least, listed}
 use Rattle.walk.proofs.Fold
 
@@ -128,3 +128,11 @@ module _ {f : ℕ → ℕ} {start : List ℕ} {hi i : ℕ} {now : List ℕ} (w :
 
   pub fill-end : hi ≤ i → now ≡ listed f 0 hi ++ drop hi start
   fill-end h = let q : i ≡ hi = omega (arith, w .high) in rw (← q) (w .filled)
+
+-- entries listed one by one are the front of their list
+pub listed-take : (xs : List ℕ) (n : ℕ) → n ≤ length xs → listed (λ i. getD xs i 0) 0 n ≡ take n xs
+listed-take xs n h =
+    ext-getD 0 (listed (λ i. getD xs i 0) 0 n) (take n xs) (Fold.listed-length (λ i. getD xs i 0) n 0 ∙ sym (length-take-le n xs h ∙ omega arith))
+    (λ i l.
+    let b : i < n = omega (arith, Fold.listed-length (λ i. getD xs i 0) n 0) in
+    Fold.listed-at (λ i. getD xs i 0) 0 n 0 i (omega arith) ∙ ap (λ (j : ℕ). getD xs j 0) (zero-add i) ∙ sym (getD-take n xs i 0 b))

@@ -1,0 +1,34 @@
+-- `checker::settle` meets its contract: what was gathered in the room is copied on acceptance alone. Assumes nothing.
+use mathlib.Core.Path.{_≡_, sym, ap, _∙_}
+use mathlib.Core.List.{List}
+use Prim.Native.Nat.{ℕ}
+use native.Mathlib.Omega.{arith}
+use lib.ListN.{length, take}
+use borrow.Author.Needs.{needs}
+use Rattle.walk.proofs.Bools.{holds}
+use Rattle.model.specs.Checked.{accepts}
+use Rattle.checker.proofs.Whole.{copied, unchosen, at-most}
+use Rattle.checker.proofs.settle.Statement.{statement}
+use Rattle.checker.proofs.settle.Tie as tie
+
+copy-requires : tie.Need-copy-requires
+copy-requires c κs = omega (arith, c .before .before .before .before .before .before .before .before .before .before .before .before .before .before .before .before .before .before .pre .1, at-most (c .before .before .before .before .before .before .before .before .before .before .before .before .before .before .before .before .before .before .args .kind .choices) (length (c .before .before .before .before .before .before .before .before .before .before .before .before .before .before .before .before .before .before .args .marks .now)), c .before .before .before .before .before .before .before .before .before .before .before .before .before .before .before .before .before .before .pre .0 .n-most, c .before .before .before .before .before .before .judge .kept)
+
+returns : tie.Need-returns
+returns c = (
+  c .before .before .before .before .before .before .before .before .before .before .judge .ensures .0,
+  c .before .before .before .copy .ensures
+      ∙ ap (λ (x : List ℕ). take (length (c .before .before .before .before .before .before .before .before .before .before .before .before .before .before .before .before .before .before .before .before .before .before .args .choices .now)) x) (c .before .before .before .before .before .before .before .before .before .before .judge .ensures .1)
+      ∙ copied _ _ _ _ (c .before .before .before .before .before .before .before .before .before .before .before .before .before .before .before .before .before .before .before .before .before .before .pre .0 .columns) (c .before .before .before .before .before .before .before .before .before .before .before .before .before .before .before .before .before .before .before .before .before .before .pre .1) (holds (sym (ap accepts (c .before .before .before .before .before .before .before .before .before .before .judge .ensures .0)) ∙ sym (c .before .before .before .before .before .before .before .accepts .ensures) ∙ c .before .before .before .before .before .before .if1 .taken)) _,
+)
+
+returns-2 : tie.Need-returns-2
+returns-2 c = (
+  c .before .before .before .before .before .judge .ensures .0,
+  unchosen _ _ _ _ _ (sym (ap accepts (c .before .before .before .before .before .judge .ensures .0)) ∙ sym (c .before .before .accepts .ensures) ∙ c .before .if1 .left),
+)
+
+pub settle-spec : {M : Type 1} → statement M
+settle-spec =
+    tie.close
+    (tie.spec (λ c. search needs) (λ c κs. search needs) (λ c κs. search needs) copy-requires (λ c. search needs) returns returns-2)
