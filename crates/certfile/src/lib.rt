@@ -4,7 +4,6 @@ mod layout;
 
 pub use layout::Lengths;
 pub use layout::counts_of;
-
 ghost use mathlib.Core.Path.{_≡_};
 ghost use Rattle.certfile.specs.File.{outcomeOf};
 ghost use Rattle.certfile.specs.Tables.{tables, lent, ReadInto};

@@ -1,10 +1,7 @@
 // What the check program prints for a file.
 ghost use mathlib.Core.Path.{_≡_};
-ghost use mathlib.Core.List.{_++_};
 ghost use Prim.Native.Nat.{_+_, _*_, _≤_};
-ghost use lib.ListN.{length, take, drop};
-ghost use Rattle.model.specs.Tables.{modelOf, claimOf};
-ghost use Rattle.model.specs.declared.answers.Verdict.the-variants.{Refused};
+ghost use lib.ListN.{length, take};
 ghost use Rattle.certfile.specs.File.{outcomeOf};
 ghost use Rattle.certfile.specs.Tables.{tables, lent};
 ghost use Rattle.program.specs.Printed.{choiceCount, refusedText, checkedText, modelCut, claimCut, readText, printedOf};
@@ -28,7 +25,11 @@ impl Room {
 
     pub const BRANCHES: usize = 2_000;
 
-    pub const STATE_BYTES: usize = Width::BYTE + Width::WORD + Width::WORD + Width::LONG + Width::WORD;
+    pub const STATE_BYTES: usize = Width::BYTE
+        + Width::WORD
+        + Width::WORD
+        + Width::LONG
+        + Width::WORD;
 
     pub const BYTES: usize = Header::BYTES
         + Room::STATES * Room::STATE_BYTES
@@ -44,13 +45,7 @@ fn choice_count(kind: u32, n: usize) -> usize
     ensures { λ r. ⌜ r ≡ choiceCount kind n ⌝ }
 {
     match model::kind_of(kind) {
-        Known::As(k) => {
-            if k.choices {
-                n
-            } else {
-                0
-            }
-        }
+        Known::As(k) => { if k.choices { n } else { 0 } }
         Known::Nothing => 0,
     }
 }
@@ -159,7 +154,7 @@ fn within(
 
 // Puts what the check program prints for a file at the beginning of the text, and answers its length.
 pub fn answer(file: &[u8], text: &mut [u8]) -> usize
-    requires { ⌜ 16064 ≤ length (now text) ⌝ }
+    requires { do ⌜ (← ⟦Room::TEXT⟧) ≤ length (now text) ⌝ }
     ensures { λ r. ⌜ Shows (printedOf (now (file .entry))) r (now (text .entry)) (now (text .exit)) ⌝ }
 {
     if Room::BYTES < file.len() {

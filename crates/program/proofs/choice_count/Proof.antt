@@ -1,34 +1,32 @@
+-- `program::choice_count` meets its contract. Assumes nothing.
+use mathlib.Core.Path.{sym, ap, _∙_}
+use mathlib.Core.Bool.{Bool}
+use Rattle.model.specs.declared.kinds.Kind.{Kind}
+use Rattle.model.specs.Refusals.{entries}
+use Rattle.certfile.proofs.Named.{named, unnamed, as-first}
 use borrow.Author.Needs.{needs}
 use Rattle.program.proofs.choice_count.Statement.{statement}
 use Rattle.program.proofs.choice_count.Tie as tie
-use Rattle.program.proofs.choice_count.Reads as reads
-use Rattle.program.proofs.choice_count.Lts as lts
-use Rattle.model.proofs.kind_of.Reads as kind-of-reads
 
--- src/lib.rt:46:11
-kind-of-requires : tie.Need-kind-of-requires
-kind-of-requires c κs = search needs
-
--- src/lib.rt:47:19
-enum-known-k : tie.Need-enum-known-k
-enum-known-k c = search needs
-
--- src/lib.rt:54:27
-enum-told : tie.Need-enum-told
-enum-told c = search needs
-
--- src/lib.rt:43:1
 returns : tie.Need-returns
-returns c = ?
+returns c =
+    let start = c .before .before .before .before .before in
+    let e = named (start .args .kind) _ (sym (c .before .before .before .before .kind-of .ensures) ∙ c .before .before .k .given .1) .1 in
+    sym (ap (λ (has : Bool). entries has (start .args .n)) (ap (λ (k : Kind). k .choices) e ∙ c .if1 .taken))
 
--- src/lib.rt:43:1
 returns-2 : tie.Need-returns-2
-returns-2 c = ?
+returns-2 c =
+    let start = c .before .before .before .before .before in
+    let e = named (start .args .kind) _ (sym (c .before .before .before .before .kind-of .ensures) ∙ c .before .before .k .given .1) .1 in
+    sym (ap (λ (has : Bool). entries has (start .args .n)) (ap (λ (k : Kind). k .choices) e ∙ c .if1 .left))
 
--- src/lib.rt:43:1
 returns-3 : tie.Need-returns-3
-returns-3 c = ?
+returns-3 c =
+    let start = c .before .before .before in
+    let e = as-first (start .args .kind) (unnamed (start .args .kind) (sym (c .before .before .kind-of .ensures) ∙ c .enum-told .given .1)) in
+    sym (ap (λ (k : Kind). entries (k .choices) (start .args .n)) e)
 
 pub choice-count-spec : {M : Type 1} → statement M
 choice-count-spec =
-    tie.close (tie.spec kind-of-requires enum-known-k enum-told returns returns-2 returns-3)
+    tie.close
+    (tie.spec (λ c κs. search needs) (λ c. search needs) (λ c. search needs) returns returns-2 returns-3)

@@ -1,109 +1,88 @@
+-- `program::judged` meets its contract: each table is cut as the header counts it. Assumes nothing.
+use mathlib.Core.Path.{_≡_, sym, ap, _∙_}
+use mathlib.Core.List.{List}
+use Prim.Native.Nat.{ℕ, _≤_}
+use native.Mathlib.Omega.{arith}
+use lib.ListN.{length, take}
+use lib.Seq.{length-take-le}
+use Rattle.certfile.specs.Tables.{Tables, tables}
+use Rattle.program.proofs.Cut.{Cuts, cuts, choices-fit, still-fits, still-cut, printed}
 use borrow.Author.Needs.{needs}
 use Rattle.program.proofs.judged.Statement.{statement}
 use Rattle.program.proofs.judged.Tie as tie
-use Rattle.program.proofs.judged.Reads as reads
-use Rattle.program.proofs.judged.Lts as lts
-use Rattle.certfile.proofs.counts_of.Reads as counts-of-reads
-use Rattle.checker.proofs.check.Reads as check-reads
-use Rattle.program.proofs.choice_count.Reads as choice-count-reads
-use Rattle.report.proofs.print.Reads as print-reads
 
--- src/lib.rt:86:9
-counts-of-requires : tie.Need-counts-of-requires
-counts-of-requires c κs = search needs
+abbrev lists : tie.Start → Tables
+lists c =
+    let a = c .args in
+    tables (a .marks .now) (a .action-starts .now) (a .branch-starts .now) (a .destinations .now) (a .weights .now) (a .costs .now) (a .claims .now) (a .ranks .now)
 
--- src/lib.rt:95:9
-choice-count-requires : tie.Need-choice-count-requires
-choice-count-requires c κs = search needs
+all : (c : tie.After-choice-count) → Cuts (c .before .counts-of .result) (lists (c .before .before .before .before .before .before .before .before .before .before .before .before))
+all c = cuts _ _ _ _ _ (c .before .counts-of .ensures .0) (c .before .before .before .before .before .before .before .before .before .before .before .before .pre)
 
--- src/lib.rt:100:9
+few : (c : tie.After-choice-count) → c .choice-count .result ≤ length (c .before .before .before .before .before .before .before .before .before .before .before .before .args .choices .now)
+few c = choices-fit _ _ _ _ _ _ (c .before .counts-of .ensures .0) (c .before .before .before .before .before .before .before .before .before .before .before .before .pre) (c .choice-count .ensures)
+
+abbrev after : tie.After-check → List ℕ
+after c = c .check .last .1 .1 .1 .1 .1 .1 .1 .1 .1 .1 .1 .0
+
+kept : (c : tie.After-check) → length (after c) ≡ length (take (c .before .before .before .before .before .before .before .before .before .before .choice-count .result) (c .before .before .before .before .before .before .before .before .before .before .before .before .before .before .before .before .before .before .before .before .before .before .args .choices .now))
+kept c = omega (arith, c .check .kept)
+
 slice-aggregate-check : tie.Need-slice-aggregate-check
-slice-aggregate-check c = ?
+slice-aggregate-check c = all (c .before) .marks
 
--- src/lib.rt:101:9
 slice-aggregate-check-2 : tie.Need-slice-aggregate-check-2
-slice-aggregate-check-2 c = ?
+slice-aggregate-check-2 c = all (c .before .before) .actionStarts
 
--- src/lib.rt:102:9
 slice-aggregate-check-3 : tie.Need-slice-aggregate-check-3
-slice-aggregate-check-3 c = ?
+slice-aggregate-check-3 c = all (c .before .before .before) .branchStarts
 
--- src/lib.rt:103:9
 slice-aggregate-check-4 : tie.Need-slice-aggregate-check-4
-slice-aggregate-check-4 c = ?
+slice-aggregate-check-4 c = all (c .before .before .before .before) .destinations
 
--- src/lib.rt:104:9
 slice-aggregate-check-5 : tie.Need-slice-aggregate-check-5
-slice-aggregate-check-5 c = ?
+slice-aggregate-check-5 c = all (c .before .before .before .before .before) .weights
 
--- src/lib.rt:105:9
 slice-aggregate-check-6 : tie.Need-slice-aggregate-check-6
-slice-aggregate-check-6 c = ?
+slice-aggregate-check-6 c = all (c .before .before .before .before .before .before) .costs
 
--- src/lib.rt:106:9
 slice-aggregate-check-7 : tie.Need-slice-aggregate-check-7
-slice-aggregate-check-7 c = ?
+slice-aggregate-check-7 c = all (c .before .before .before .before .before .before .before) .claims
 
--- src/lib.rt:107:9
 slice-aggregate-check-8 : tie.Need-slice-aggregate-check-8
-slice-aggregate-check-8 c = ?
+slice-aggregate-check-8 c = all (c .before .before .before .before .before .before .before .before) .ranks
 
--- src/lib.rt:108:9
 slice-relend-prefix-check : tie.Need-slice-relend-prefix-check
-slice-relend-prefix-check c = ?
+slice-relend-prefix-check c = few (c .before .before .before .before .before .before .before .before)
 
--- src/lib.rt:108:9
 slice-aggregate-check-9 : tie.Need-slice-aggregate-check-9
-slice-aggregate-check-9 c = ?
+slice-aggregate-check-9 c = sym (length-take-le _ _ (few (c .before .before .before .before .before .before .before .before .before)))
 
--- src/lib.rt:96:9
-check-requires : tie.Need-check-requires
-check-requires c κs = ?
-
--- src/lib.rt:111:28
 slice-reshare-prefix-print : tie.Need-slice-reshare-prefix-print
-slice-reshare-prefix-print c = ?
+slice-reshare-prefix-print c = still-fits _ _ (after (c .before .before)) (few (c .before .before .before .before .before .before .before .before .before .before .before .before)) (kept (c .before .before))
 
--- src/lib.rt:111:28
 slice-aggregate-print : tie.Need-slice-aggregate-print
-slice-aggregate-print c = ?
+slice-aggregate-print c = still-cut _ _ (after (c .before .before .before)) (few (c .before .before .before .before .before .before .before .before .before .before .before .before .before)) (kept (c .before .before .before))
 
--- src/lib.rt:111:5
 print-requires : tie.Need-print-requires
-print-requires c κs = ?
+print-requires c κs =
+    let checked = c .before .before .before .before in
+    let counted = checked .before .before .before .before .before .before .before .before .before .before in
+    let start = counted .before .before .before .before .before .before .before .before .before .before .before .before in
+    omega (arith, still-cut (counted .choice-count .result) (start .args .choices .now) (after checked) (few counted) (kept checked), few counted, start .pre .bytes)
 
--- src/lib.rt:67:1
-same-length : tie.Need-same-length
-same-length c = search needs
-
--- src/lib.rt:67:1
-same-length-2 : tie.Need-same-length-2
-same-length-2 c = search needs
-
--- src/lib.rt:67:1
 returns : tie.Need-returns
-returns c = ?
+returns c =
+    let checked = c .before .before .before .before .before .before .before in
+    let counted = checked .before .before .before .before .before .before .before .before .before .before in
+    let start = counted .before .before .before .before .before .before .before .before .before .before .before .before in
+    printed _ _ (after checked) (few counted) (kept checked) (start .args .h) _ (lists start) (counted .before .counts-of .ensures .0) (counted .choice-count .ensures) _ _ _ _
+    (checked .check .ensures) (c .before .before .print .ensures .0) (c .before .before .print .ensures .1)
 
 pub judged-spec : {M : Type 1} → statement M
 judged-spec =
     tie.close
-    (tie.spec
-    counts-of-requires
-    choice-count-requires
-    slice-aggregate-check
-    slice-aggregate-check-2
-    slice-aggregate-check-3
-    slice-aggregate-check-4
-    slice-aggregate-check-5
-    slice-aggregate-check-6
-    slice-aggregate-check-7
-    slice-aggregate-check-8
-    slice-relend-prefix-check
-    slice-aggregate-check-9
-    check-requires
-    slice-reshare-prefix-print
-    slice-aggregate-print
-    print-requires
-    same-length
-    same-length-2
+    (tie.spec (λ c κs. search needs) (λ c κs. search needs) slice-aggregate-check slice-aggregate-check-2 slice-aggregate-check-3
+    slice-aggregate-check-4 slice-aggregate-check-5 slice-aggregate-check-6 slice-aggregate-check-7 slice-aggregate-check-8 slice-relend-prefix-check
+    slice-aggregate-check-9 (λ c κs. tt) slice-reshare-prefix-print slice-aggregate-print print-requires (λ c. search needs) (λ c. search needs)
     returns)

@@ -1,25 +1,13 @@
+-- `program::refused` meets its contract. Assumes nothing.
+use Rattle.program.specs.Printed.{refusedText}
 use borrow.Author.Needs.{needs}
 use Rattle.program.proofs.refused.Statement.{statement}
 use Rattle.program.proofs.refused.Tie as tie
-use Rattle.program.proofs.refused.Reads as reads
-use Rattle.program.proofs.refused.Lts as lts
-use Rattle.report.proofs.print.Reads as print-reads
 
--- src/lib.rt:63:55
-slice-aggregate-print : tie.Need-slice-aggregate-print
-slice-aggregate-print c = search needs
-
--- src/lib.rt:63:5
-print-requires : tie.Need-print-requires
-print-requires c κs = search needs
-
--- src/lib.rt:59:1
-same-length : tie.Need-same-length
-same-length c = search needs
-
--- src/lib.rt:59:1
 returns : tie.Need-returns
-returns c = ?
+unfolding refusedText
+returns c = record { length = c .before .before .print .ensures .0; text = c .before .before .print .ensures .1 }
 
 pub refused-spec : {M : Type 1} → statement M
-refused-spec = tie.close (tie.spec slice-aggregate-print print-requires same-length returns)
+refused-spec = tie.close
+    (tie.spec (λ c. search needs) (λ c κs. search needs) (λ c. search needs) returns)

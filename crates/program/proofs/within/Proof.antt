@@ -1,143 +1,48 @@
+-- `program::within` meets its contract: a file that was read is checked, and a refusal is printed. Assumes nothing.
+use mathlib.Core.Path.{_≡_}
+use native.Mathlib.Omega.{arith}
+use Rattle.certfile.specs.Tables.{Tables, tables, lent}
+use Rattle.program.proofs.Taken.{lengths-kept, enough, printed-read, printed-refused}
 use borrow.Author.Needs.{needs}
 use Rattle.program.proofs.within.Statement.{statement}
 use Rattle.program.proofs.within.Tie as tie
-use Rattle.program.proofs.within.Reads as reads
-use Rattle.program.proofs.within.Lts as lts
-use Rattle.certfile.proofs.read.Reads as read-reads
-use Rattle.program.proofs.judged.Reads as judged-reads
-use Rattle.program.proofs.refused.Reads as refused-reads
 
--- src/lib.rt:131:9
-read-requires : tie.Need-read-requires
-read-requires c κs = search needs
+abbrev before : tie.Start → Tables
+before c =
+    let a = c .args in
+    tables (a .marks .now) (a .action-starts .now) (a .branch-starts .now) (a .destinations .now) (a .weights .now) (a .costs .now) (a .claims .now) (a .ranks .now)
 
--- src/lib.rt:143:23
-enum-known-outcome : tie.Need-enum-known-outcome
-enum-known-outcome c = search needs
+abbrev after : tie.After-read → Tables
+after c = tables (c .read .last .1 .0) (c .read .last .1 .1 .0) (c .read .last .1 .1 .1 .0) (c .read .last .1 .1 .1 .1 .0) (c .read .last .1 .1 .1 .1 .1 .0) (c .read .last .1 .1 .1 .1 .1 .1 .0) (c .read .last .1 .1 .1 .1 .1 .1 .1 .0) (c .read .last .1 .1 .1 .1 .1 .1 .1 .1 .0)
 
--- src/lib.rt:143:29
+kept : (c : tie.After-read) → lent (after c) ≡ lent (before (c .before .before .before .before .before .before .before .before .before .before .before .before .before .before .before .before .before .before .before .before))
+kept c =
+    let k = c .read .kept in
+    lengths-kept (before (c .before .before .before .before .before .before .before .before .before .before .before .before .before .before .before .before .before .before .before .before)) (after c) (omega (arith, k)) (omega (arith, k)) (omega (arith, k)) (omega (arith, k)) (omega (arith, k)) (omega (arith, k)) (omega (arith, k)) (omega (arith, k))
+
 judged-requires : tie.Need-judged-requires
-judged-requires c κs = ?
+judged-requires c κs =
+    let known = c .before .before .before .before .before .before .before .before .before .before .before in
+    let read = known .before .before .before .before .before .before .before .before .before .before .before .before .before .before .before .before .before .before in
+    let start = read .before .before .before .before .before .before .before .before .before .before .before .before .before .before .before .before .before .before .before .before in
+    enough _ _ _ (after read) _ _ (read .read .ensures) _ (known .outcome .given .1) (kept read) (start .pre .0) (start .pre .1)
 
--- src/lib.rt:156:28
-enum-known-outcome-2 : tie.Need-enum-known-outcome-2
-enum-known-outcome-2 c = search needs
-
--- src/lib.rt:156:47
-refused-requires : tie.Need-refused-requires
-refused-requires c κs = search needs
-
--- src/lib.rt:115:1
-same-length : tie.Need-same-length
-same-length c = search needs
-
--- src/lib.rt:115:1
-same-length-2 : tie.Need-same-length-2
-same-length-2 c = search needs
-
--- src/lib.rt:115:1
-same-length-3 : tie.Need-same-length-3
-same-length-3 c = search needs
-
--- src/lib.rt:115:1
-same-length-4 : tie.Need-same-length-4
-same-length-4 c = search needs
-
--- src/lib.rt:115:1
-same-length-5 : tie.Need-same-length-5
-same-length-5 c = search needs
-
--- src/lib.rt:115:1
-same-length-6 : tie.Need-same-length-6
-same-length-6 c = search needs
-
--- src/lib.rt:115:1
-same-length-7 : tie.Need-same-length-7
-same-length-7 c = search needs
-
--- src/lib.rt:115:1
-same-length-8 : tie.Need-same-length-8
-same-length-8 c = search needs
-
--- src/lib.rt:115:1
-same-length-9 : tie.Need-same-length-9
-same-length-9 c = search needs
-
--- src/lib.rt:115:1
-same-length-10 : tie.Need-same-length-10
-same-length-10 c = search needs
-
--- src/lib.rt:115:1
 returns : tie.Need-returns
-returns c = ?
+returns c =
+    let known = c .before .before .before .before .before .before .before .before .before .before .before .before .before .before .before .before in
+    let read = known .before .before .before .before .before .before .before .before .before .before .before .before .before .before .before .before .before .before in
+    printed-read _ _ _ (after read) _ _ (read .read .ensures) _ (known .outcome .given .1) _ _ (c .before .before .before .before .judged .ensures)
 
--- src/lib.rt:115:1
-same-length-11 : tie.Need-same-length-11
-same-length-11 c = search needs
-
--- src/lib.rt:115:1
-same-length-12 : tie.Need-same-length-12
-same-length-12 c = search needs
-
--- src/lib.rt:115:1
-same-length-13 : tie.Need-same-length-13
-same-length-13 c = search needs
-
--- src/lib.rt:115:1
-same-length-14 : tie.Need-same-length-14
-same-length-14 c = search needs
-
--- src/lib.rt:115:1
-same-length-15 : tie.Need-same-length-15
-same-length-15 c = search needs
-
--- src/lib.rt:115:1
-same-length-16 : tie.Need-same-length-16
-same-length-16 c = search needs
-
--- src/lib.rt:115:1
-same-length-17 : tie.Need-same-length-17
-same-length-17 c = search needs
-
--- src/lib.rt:115:1
-same-length-18 : tie.Need-same-length-18
-same-length-18 c = search needs
-
--- src/lib.rt:115:1
-same-length-19 : tie.Need-same-length-19
-same-length-19 c = search needs
-
--- src/lib.rt:115:1
 returns-2 : tie.Need-returns-2
-returns-2 c = ?
+returns-2 c =
+    let known = c .before .before .before .before .before in
+    let read = known .before .before .before .before .before .before .before .before .before .before .before .before .before .before .before .before .before .before in
+    printed-refused _ _ _ (after read) _ _ (read .read .ensures) _ _ (known .outcome2 .given .1) _ _ (c .before .before .refused .ensures)
 
 pub within-spec : {M : Type 1} → statement M
 within-spec =
     tie.close
-    (tie.spec
-    read-requires
-    enum-known-outcome
-    judged-requires
-    enum-known-outcome-2
-    refused-requires
-    same-length
-    same-length-2
-    same-length-3
-    same-length-4
-    same-length-5
-    same-length-6
-    same-length-7
-    same-length-8
-    same-length-9
-    same-length-10
-    returns
-    same-length-11
-    same-length-12
-    same-length-13
-    same-length-14
-    same-length-15
-    same-length-16
-    same-length-17
-    same-length-18
-    same-length-19
-    returns-2)
+    (tie.spec (λ c κs. search needs) (λ c. search needs) judged-requires (λ c. search needs) (λ c κs. search needs) (λ c. search needs)
+    (λ c. search needs) (λ c. search needs) (λ c. search needs) (λ c. search needs) (λ c. search needs) (λ c. search needs) (λ c. search needs)
+    (λ c. search needs) (λ c. search needs) returns (λ c. search needs) (λ c. search needs) (λ c. search needs) (λ c. search needs)
+    (λ c. search needs) (λ c. search needs) (λ c. search needs) (λ c. search needs) (λ c. search needs) returns-2)

@@ -1,0 +1,107 @@
+-- A file that was read, and what is printed for it. Assumes nothing.
+use mathlib.Core.Path.{_≡_, refl, sym, ap, subst, _∙_}
+use mathlib.Core.Bool.{true, false}
+use mathlib.Core.List.{List, [], _∷_, _++_}
+use Prim.Native.Nat.{ℕ, _+_, _-_, _*_, _≤_, _<_}
+use native.Mathlib.Omega.{arith}
+use lib.ListN.{length, getD, take, drop, length-append}
+use lib.Seq.{take-at}
+use borrow.Author.Tests.{lt-ltb, le-ltb}
+use Rattle.walk.proofs.Fold as Fold
+use Rattle.model.specs.Tables.{Model, Claim, modelOf, claimOf}
+use Rattle.wire.specs.Words.{word}
+use Rattle.wire.specs.Blocks.{Block, block, numbers, overwritten}
+use Rattle.certfile.specs.declared.Header.{Header}
+use Rattle.certfile.specs.declared.Outcome.{Outcome}
+use Rattle.certfile.specs.declared.Outcome.the-variants.{Read, Refused}
+use Rattle.certfile.specs.File.{announced, outcomeOf, tableOf}
+use Rattle.certfile.specs.Layout.{tablePlace}
+use Rattle.certfile.specs.Tables.{Tables, lent, ReadInto}
+use Rattle.certfile.proofs.Passed.{ready}
+use Rattle.program.specs.Printed.{tableIn, modelIn, claimIn, cut, modelCut, claimCut, choiceCount, checkedText, readText, refusedText, printedOf, mostBytes, room, blank}
+use Rattle.program.specs.Shows.{Shows, Enough}
+
+-- a block has as many numbers as it counts
+numbers-length : (x : Block) (file : List ℕ) (at : ℕ) → length (numbers x file at) ≡ x .count
+unfolding numbers
+numbers-length x file at = Fold.listed-length (λ k. word (x .width) file (at + k * x .width)) (x .count) 0 ∙ omega arith
+
+-- what was read, and then cut, is what the file holds
+cut-read : (h : Header) (i : ℕ) (file table : List ℕ) → cut h i (tableOf (Read h) i file table) ≡ tableIn h file i
+unfolding cut tableOf tableIn overwritten tablePlace
+cut-read h i file table =
+    let x = block (announced h) (i - 1) in
+    take-at (numbers x file (tablePlace h (i - 1))) (drop (x .count) table) (x .count) (numbers-length x file (tablePlace h (i - 1)))
+
+pub lengths-kept : (t u : Tables)
+    → length (u .marks) ≡ length (t .marks)
+    → length (u .actionStarts) ≡ length (t .actionStarts)
+    → length (u .branchStarts) ≡ length (t .branchStarts)
+    → length (u .destinations) ≡ length (t .destinations)
+    → length (u .weights) ≡ length (t .weights)
+    → length (u .costs) ≡ length (t .costs)
+    → length (u .claims) ≡ length (t .claims)
+    → length (u .ranks) ≡ length (t .ranks)
+    → lent u ≡ lent t
+lengths-kept t u a b c d e f g h = rw (a, b, c, d, e, f, g, h)
+
+pub shows-same : {bytes bytes′ : List ℕ} {r : ℕ} {before after : List ℕ} → bytes ≡ bytes′ → Shows bytes r before after → Shows bytes′ r before after
+shows-same e p = rw (← e) p
+
+read-is : (h : Header) (file choices : List ℕ) → checkedText (h .kind) (modelIn h file) (claimIn h file) (take (choiceCount (h .kind) (h .n)) choices) ≡ readText (Read h) file choices
+unfolding readText
+read-is h file choices = refl
+
+refused-is : (number place : ℕ) (file choices : List ℕ) → refusedText number place ≡ readText (Refused number place) file choices
+unfolding readText
+refused-is number place file choices = refl
+
+module _ (o : Outcome) (file : List ℕ) (t u : Tables) (choices text : List ℕ) (w : ReadInto o file t u) where
+  module _ (h : Header) (e : o ≡ Read h) where
+    -- what checking asks of the tables, the choice list and the text
+    pub enough : lent u ≡ lent t → length (t .marks) ≤ length choices → 64 + 32 * length choices ≤ length text → Enough h (lent u) choices text
+    unfolding block announced
+    enough kept few long =
+        let at = ready (lent t) file h (sym (w .answer) ∙ e) in
+        record {
+          tables = λ i. subst (λ (l : List ℕ). block (announced h) i .count ≤ getD l i 0) (sym kept) (at i .1);
+          states = omega (arith, at 0 .1);
+          bytes = long;
+        }
+
+    one : (i : ℕ) (x y : List ℕ) → x ≡ tableOf o i file y → cut h i x ≡ tableIn h file i
+    one i x y p = rw (p, e) (cut-read h i file y)
+
+    model-read : modelCut h u ≡ modelIn h file
+    model-read = λ j. modelOf (h .d) (one 1 _ _ (w .marks) j) (one 2 _ _ (w .actionStarts) j) (one 3 _ _ (w .branchStarts) j) (one 4 _ _ (w .destinations) j) (one 5 _ _ (w .weights) j)
+
+    claim-read : claimCut h u ≡ claimIn h file
+    claim-read = λ j. claimOf (h .c) (one 6 _ _ (w .costs) j) (one 7 _ _ (w .claims) j) (one 8 _ _ (w .ranks) j)
+
+    pub printed-read : (r : ℕ) (text′ : List ℕ)
+        → Shows (checkedText (h .kind) (modelCut h u) (claimCut h u) (take (choiceCount (h .kind) (h .n)) choices)) r text text′
+        → Shows (readText (outcomeOf (lent t) file) file choices) r text text′
+    printed-read r text′ p =
+        shows-same
+        (ap (λ (x : Model). checkedText (h .kind) x (claimCut h u) (take (choiceCount (h .kind) (h .n)) choices)) model-read
+        ∙ ap (λ (x : Claim). checkedText (h .kind) (modelIn h file) x (take (choiceCount (h .kind) (h .n)) choices)) claim-read
+        ∙ read-is h file choices
+        ∙ ap (λ (x : Outcome). readText x file choices) (sym e ∙ w .answer))
+        p
+
+  pub printed-refused : (number place : ℕ) → o ≡ Refused number place → (r : ℕ) (text′ : List ℕ) → Shows (refusedText number place) r text text′ → Shows (readText (outcomeOf (lent t) file) file choices) r text text′
+  printed-refused number place e r text′ p =
+      shows-same (refused-is number place file choices ∙ ap (λ (x : Outcome). readText x file choices) (sym e ∙ w .answer)) p
+
+-- over-long input is refused before all else
+pub too-long : (file : List ℕ) → mostBytes < length file → refusedText 33 0 ≡ printedOf file
+unfolding printedOf
+too-long file h = rw (lt-ltb mostBytes (length file) h)
+
+pub not-too-long : (file : List ℕ) → length file ≤ mostBytes → readText (outcomeOf room file) file blank ≡ printedOf file
+unfolding printedOf
+not-too-long file h = rw (le-ltb mostBytes (length file) h)
+
+-- what is shown lies within the text
+pub shown-within : {bytes : List ℕ} {r : ℕ} {before after : List ℕ} → Shows bytes r before after → r ≤ length after
+shown-within {bytes} {r} {before} {after} p = omega (arith, p .length, simp length-append at (ap length (p .text)))
