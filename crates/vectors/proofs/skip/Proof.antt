@@ -1,0 +1,21 @@
+-- `vectors::skip` meets its contract: each turn leaves fewer bytes. Assumes nothing.
+use native.Mathlib.Omega.{arith}
+use Rattle.vectors.proofs.skip.Statement.{statement}
+use Rattle.vectors.proofs.skip.Tie as tie
+
+abbrev Inv-loop : tie.InvT-loop
+Inv-loop count left₀ left = Unit
+
+abbrev μ-loop : tie.MeasureT-loop
+μ-loop count left₀ left = left
+
+sub-left : tie.Need-sub-left Inv-loop μ-loop
+sub-left c = omega arith
+
+loop-less : tie.Need-loop-less Inv-loop μ-loop
+loop-less c = omega arith
+
+pub skip-spec : {M : Type 1} → statement M
+skip-spec =
+    tie.close
+    (tie.spec Inv-loop μ-loop (λ c. tt) (λ c κs. tt) (λ c. tt) sub-left loop-less (λ c. tt) (λ c. tt))
