@@ -9,13 +9,7 @@ Inv-loop count left₀ left = Unit
 abbrev μ-loop : tie.MeasureT-loop
 μ-loop count left₀ left = left
 
-sub-left : tie.Need-sub-left Inv-loop μ-loop
-sub-left c = omega arith
-
-loop-less : tie.Need-loop-less Inv-loop μ-loop
-loop-less c = omega arith
-
 pub skip-spec : {M : Type 1} → statement M
 skip-spec =
     tie.close
-    (tie.spec Inv-loop μ-loop (λ c. tt) (λ c κs. tt) (λ c. tt) sub-left loop-less (λ c. tt) (λ c. tt))
+    (tie.spec Inv-loop μ-loop (λ c. tt) (λ c κs. tt) (λ c. tt) (λ c. omega arith) (λ c. omega arith) (λ c. tt) (λ c. tt))
