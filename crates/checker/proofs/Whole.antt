@@ -24,7 +24,7 @@ use Rattle.model.specs.Answers.{pass, then, tried, require}
 use Rattle.model.specs.Refusals.{entries, lengthsOf, kindTest, sizesOf, sizeTests, rowTests, rangesOf, rangeTests, tests}
 use Rattle.model.specs.WellFormed.{Sized, Counted, InRange, WellFormed}
 use Rattle.model.specs.Conditions.{judged}
-use Rattle.model.specs.Checked.{accepts, greatestRank, conditions, verdictOf, answerOf, choice, chosenOf, choicesOf}
+use Rattle.model.specs.Checked.{accepts, greatestRank, conditions, verdictOf, refusalOf, answerOf, choice, chosenOf, choicesOf}
 use Rattle.model.proofs.Tried.{tried-append, tried-all, tried-passed, then-passed, then-stopped, then-assoc, each-all}
 use Rattle.model.proofs.Formed.{sized, formed}
 use Rattle.rows.specs.Fitting.{Fitting}
@@ -229,3 +229,11 @@ module _ (kind : ℕ) (t : Model) (u : Claim) (before after : List ℕ) where
   unknown-kept e q =
       let f = sym (verdict-none (unnamed kind e)) in
       promise kind t u before _ after (answers (Refused 1 0) f) (q ∙ unchosen (kindOf kind) t u before (Refused 1 0) refl ∙ chooses (Refused 1 0) f)
+
+  pub known-refused : (v : Verdict) (k : Kind) → As k ≡ knownAs kind → v ≡ tried (tests k t u before) pass → v ≡ refusalOf kind t u before
+  unfolding refusalOf then kindTest require
+  known-refused v k e p = let n = named k kind e in p ∙ ap (λ (x : Kind). tried (tests x t u before) pass) (n .1) ∙ rw (n .0)
+
+  pub unknown-refused : Nothing ≡ knownAs kind → Refused 1 0 ≡ refusalOf kind t u before
+  unfolding refusalOf then kindTest require
+  unknown-refused e = rw (unnamed kind e)
