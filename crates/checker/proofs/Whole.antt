@@ -28,7 +28,7 @@ use Rattle.model.specs.Checked.{accepts, greatestRank, conditions, verdictOf, a
 use Rattle.model.proofs.Tried.{tried-append, tried-all, tried-passed, then-passed, then-stopped, then-assoc, each-all}
 use Rattle.model.proofs.Formed.{sized, formed}
 use Rattle.rows.specs.Fitting.{Fitting}
-use Rattle.conditions.specs.Ready.{Ready}
+use Rattle.actions.specs.Ready.{Ready}
 use Rattle.conditions.specs.Judging.{picked, broken, roomOf}
 use Rattle.soundness.proofs.Demand3.{demand3}
 use Rattle.checker.specs.Promise.{Checked}
