@@ -9,7 +9,7 @@ ghost use Rattle.model.specs.Answers.{pass, tried};
 ghost use Rattle.model.specs.Kinds.{Columns};
 ghost use Rattle.model.specs.Refusals.{entries, tests};
 ghost use Rattle.model.specs.Checked.{chosenOf, conditions, refusalOf, verdictOf};
-ghost use Rattle.conditions.specs.Ready.{Ready};
+ghost use Rattle.actions.specs.Ready.{Ready};
 ghost use Rattle.checker.specs.Promise.{Checked};
 use model::Answer;
 use model::Kind;

@@ -1,7 +1,7 @@
 -- The whole check: refusals, then the conditions of the states in order, then acceptance with R and the choices.
 use Prim.Native.Nat.{ℕ}
 use mathlib.Core.Bool.{Bool, true, false, cond, _&&_}
-use mathlib.Core.List.{List, _∷_}
+use mathlib.Core.List.{List}
 use lib.Dec.{eqb}
 use lib.ListN.{length, getD}
 use Rattle.walk.specs.Fold.{greatest, listed}

@@ -1,13 +1,13 @@
--- `conditions::judge_action` meets its contract: the numbers that it compares are those of the definition, and they fit.
+-- `actions::judge_action` meets its contract: the numbers that it compares are those of the definition, and they fit.
 -- Assumes nothing.
 use mathlib.Core.Path.{_≡_, sym, ap, _∙_}
 use Prim.Native.Nat.{ℕ, _+_, _*_}
 use native.Mathlib.Omega.{arith}
 use borrow.Author.Needs.{needs}
-use Rattle.conditions.specs.Judging.{stateCost}
-use Rattle.conditions.proofs.Action.{has-claim, has-cost, has-rank, due-fits, spent-fits, weighable, sum-most, keeps-least, keeps-most, keeps-falling, keeps-unfallen}
-use Rattle.conditions.proofs.judge_action.Statement.{statement}
-use Rattle.conditions.proofs.judge_action.Tie as tie
+use Rattle.actions.specs.Judging.{stateCost}
+use Rattle.actions.proofs.Action.{has-claim, has-cost, has-rank, due-fits, spent-fits, weighable, sum-most, keeps-least, keeps-most, keeps-falling, keeps-unfallen}
+use Rattle.actions.proofs.judge_action.Statement.{statement}
+use Rattle.actions.proofs.judge_action.Tie as tie
 
 -- what the state spends
 spends : (c : tie.After-state-cost) → c .before .before .before .before .before .before .before .before .before .before .before .before .args .d * c .state-cost .result ≡ c .before .before .before .before .before .before .before .before .before .before .before .before .args .d * stateCost (c .before .before .before .before .before .before .before .before .before .before .before .before .args .kind) (c .before .before .before .before .before .before .before .before .before .before .before .before .args .costs .now) (c .before .before .before .before .before .before .before .before .before .before .before .before .args .s)

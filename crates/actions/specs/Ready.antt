@@ -1,4 +1,4 @@
--- What the conditions ask of the tables before they judge: the sizes, the rows and the ranges are right.
+-- What judging an action asks of the tables: the sizes, the rows and the ranges are right.
 use Prim.Native.Nat.{ℕ, _+_, _*_, _≤_, _<_}
 use mathlib.Core.Path.{_≡_}
 use mathlib.Core.List.{List}

@@ -1,18 +1,17 @@
--- `conditions::lowest` meets its contract: none of the state's actions below a is the one. Assumes nothing.
+-- `actions::lowest` meets its contract: none of the state's actions below a is the one. Assumes nothing.
 use mathlib.Core.Path.{_≡_, sym, ap, _∙_}
 use mathlib.Core.Bool.{Bool, Bool·beq}
-use Prim.Native.Nat.{ℕ, _+_, _-_, _≤_, _<_}
+use Prim.Native.Nat.{_+_, _-_}
 use native.Mathlib.Nat.{le-refl, le-of-lt}
 use native.Mathlib.Omega.{arith}
-use lib.ListN.{length, getD}
 use borrow.Author.Needs.{needs}
 use Rattle.walk.proofs.Loop.{Seeking, seek-start, seek-pass, seek-hit, seek-end}
 use Rattle.model.specs.Tables.{modelOf, claimOf}
 use Rattle.model.specs.Conditions.{lowestAction}
 use Rattle.model.proofs.Rising.{start-below}
-use Rattle.conditions.specs.Judging.{keeps, lowestOf}
-use Rattle.conditions.proofs.lowest.Statement.{statement}
-use Rattle.conditions.proofs.lowest.Tie as tie
+use Rattle.actions.specs.Judging.{keeps, lowestOf}
+use Rattle.actions.proofs.lowest.Statement.{statement}
+use Rattle.actions.proofs.lowest.Tie as tie
 
 abbrev Inv-loop : tie.InvT-loop
 Inv-loop kind wanted asked d c marks action-starts branch-starts destinations weights costs claims ranks s hi a₀ a =

@@ -1,27 +1,25 @@
 -- One action of a state in well-formed tables: its sums fit, and the numbers that the code compares decide whether it keeps.
 -- Assumes nothing.
-use mathlib.Core.Path.{_≡_, refl, sym, ap, subst, fun-ext, _∙_}
-use mathlib.Core.Bool.{Bool, true, false, cond, not, _&&_, _||_, and-true, and-false}
-use mathlib.Core.List.{List}
-use mathlib.Core.Logic.{_⊎_, inl, inr, ⊎-elim}
-use Prim.Native.Nat.{ℕ, _+_, _-_, _*_, _≤_, _<_}
+use mathlib.Core.Path.{_≡_, refl, sym, ap, fun-ext, _∙_}
+use mathlib.Core.Bool.{Bool, true, false, cond, not, _&&_, and-true, and-false}
+use mathlib.Core.Logic.{⊎-elim}
+use Prim.Native.Nat.{ℕ, _+_, _*_, _≤_, _<_}
 use native.Mathlib.Nat.{le-trans, le-of-lt, mul-le-mul, mul-le-mul-left, mul-le-mul-right, mul-zero, le-refl}
 use native.Mathlib.Omega.{arith}
-use lib.Dec.{T, leb, ltb, eqb}
-use lib.ListN.{length, getD}
+use lib.Dec.{leb, ltb, eqb}
+use lib.ListN.{length}
 use borrow.Author.Tests.{lt-ltb, le-ltb, ne-eqb}
-use Rattle.walk.specs.Fold.{sum, any, least}
+use Rattle.walk.specs.Fold.{sum, any}
 use Rattle.walk.proofs.Fold.{at-end, sum-le, sum-times, least-below}
 use Rattle.model.specs.declared.kinds.Kind.{Kind}
 use Rattle.model.specs.Limits.{mostWeightScale, mostClaimScale, mostCostClaim, mostCost, none}
 use Rattle.model.specs.Kinds.{isCost, isAtLeast}
-use Rattle.model.specs.Tables.{Model, Claim, states, actions, branches, firstAction, firstBranch, destination, weight, cost, claim, rank, ranked}
-use Rattle.model.specs.Refusals.{limitOf}
+use Rattle.model.specs.Tables.{Model, Claim, states, branches, firstAction, firstBranch, destination, weight, cost, claim, rank}
 use Rattle.model.specs.WellFormed.{Row}
 use Rattle.model.specs.Conditions.{weighted, expected, suits, falls}
 use Rattle.model.proofs.Rising.{start-below}
-use Rattle.conditions.specs.Ready.{Ready, Weighable}
-use Rattle.conditions.specs.Judging.{sumOf, leastOf, stateCost, keeps}
+use Rattle.actions.specs.Ready.{Ready, Weighable}
+use Rattle.actions.specs.Judging.{sumOf, leastOf, stateCost, keeps}
 
 limit-most : (cost : Bool) (c : ℕ) → c ≤ mostClaimScale → cond cost mostCostClaim c ≤ mostCostClaim
 limit-most true c h = le-refl mostCostClaim

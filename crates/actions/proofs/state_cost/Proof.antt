@@ -1,10 +1,10 @@
--- `conditions::state_cost` meets its contract. Assumes nothing.
+-- `actions::state_cost` meets its contract. Assumes nothing.
 use mathlib.Core.Path.{sym, _∙_}
 use native.Mathlib.Omega.{arith}
 use borrow.Author.Needs.{needs}
-use Rattle.conditions.specs.Judging.{stateCost}
-use Rattle.conditions.proofs.state_cost.Statement.{statement}
-use Rattle.conditions.proofs.state_cost.Tie as tie
+use Rattle.actions.specs.Judging.{stateCost}
+use Rattle.actions.proofs.state_cost.Statement.{statement}
+use Rattle.actions.proofs.state_cost.Tie as tie
 
 mul-result : tie.Need-mul-result
 mul-result c = omega (arith, c .before .before .before .pre (sym (c .before .is-cost .ensures) ∙ c .if1 .taken))

@@ -1,8 +1,8 @@
--- `conditions::agree` meets its contract. Assumes nothing.
+-- `actions::agree` meets its contract. Assumes nothing.
 use mathlib.Core.Path.{_≡_, refl}
 use mathlib.Core.Bool.{Bool, true, false, not, Bool·beq}
-use Rattle.conditions.proofs.agree.Statement.{statement}
-use Rattle.conditions.proofs.agree.Tie as tie
+use Rattle.actions.proofs.agree.Statement.{statement}
+use Rattle.actions.proofs.agree.Tie as tie
 
 true-agrees : (b : Bool) → b ≡ Bool·beq true b
 true-agrees true = refl

@@ -1,9 +1,9 @@
--- `conditions::weighted` meets its contract: total is the sum over the branches below j. Assumes nothing.
+-- `actions::weighted` meets its contract: total is the sum over the branches below j. Assumes nothing.
 use Prim.Native.Nat.{_-_}
 use native.Mathlib.Omega.{arith}
-use Rattle.conditions.proofs.Weighing.{Weighing, weigh-start, weigh-pass, weigh-end, place-within, sum-fits}
-use Rattle.conditions.proofs.weighted.Statement.{statement}
-use Rattle.conditions.proofs.weighted.Tie as tie
+use Rattle.actions.proofs.Weighing.{Weighing, weigh-start, weigh-pass, weigh-end, place-within, sum-fits}
+use Rattle.actions.proofs.weighted.Statement.{statement}
+use Rattle.actions.proofs.weighted.Tie as tie
 
 abbrev Inv-loop : tie.InvT-loop
 Inv-loop lo hi destinations weights claims total₀ j₀ total j = Weighing destinations weights claims lo hi total j

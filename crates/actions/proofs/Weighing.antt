@@ -1,15 +1,14 @@
 -- The walk over a stretch of branches that adds weight times claim. Assumes nothing.
-use mathlib.Core.Path.{_≡_, refl}
+use mathlib.Core.Path.{_≡_}
 use mathlib.Core.List.{List}
 use Prim.Native.Nat.{ℕ, _+_, _*_, _≤_, _<_}
 use native.Mathlib.Nat.{le-refl, le-trans}
 use native.Mathlib.Omega.{arith}
 use lib.ListN.{length, getD}
-use Rattle.walk.specs.Fold.{sum}
 use Rattle.walk.proofs.Loop.{Summing, sum-start, sum-pass, sum-within, sum-ends}
 use Rattle.model.specs.Limits.{mostWeightScale, mostCostClaim}
-use Rattle.conditions.specs.Ready.{Weighable}
-use Rattle.conditions.specs.Judging.{sumOf}
+use Rattle.actions.specs.Ready.{Weighable}
+use Rattle.actions.specs.Judging.{sumOf}
 
 abbrev pub term : List ℕ → List ℕ → List ℕ → ℕ → ℕ
 term destinations weights claims j = getD weights j 0 * getD claims (getD destinations j 0) 0

@@ -1,18 +1,17 @@
--- `conditions::sweep` meets its contract: the sum and the least rank over the branches below j. Assumes nothing.
+-- `actions::sweep` meets its contract: the sum and the least rank over the branches below j. Assumes nothing.
 use mathlib.Core.Path.{_≡_}
 use mathlib.Core.List.{List}
-use Prim.Native.Nat.{ℕ, _-_, _≤_, _<_}
+use Prim.Native.Nat.{ℕ, _-_, _≤_}
 use native.Mathlib.Nat.{le-refl}
 use native.Mathlib.Omega.{arith}
 use lib.ListN.{length, getD}
 use borrow.Author.Needs.{needs}
-use Rattle.walk.specs.Fold.{least}
 use Rattle.walk.proofs.Loop.{Sinking, sink-start, sink-pass, sink-end}
 use Rattle.model.specs.Limits.{none}
-use Rattle.conditions.specs.Judging.{leastOf}
-use Rattle.conditions.proofs.Weighing.{Weighing, weigh-start, weigh-pass, weigh-end, place-within, sum-fits}
-use Rattle.conditions.proofs.sweep.Statement.{statement}
-use Rattle.conditions.proofs.sweep.Tie as tie
+use Rattle.actions.specs.Judging.{leastOf}
+use Rattle.actions.proofs.Weighing.{Weighing, weigh-start, weigh-pass, weigh-end, place-within, sum-fits}
+use Rattle.actions.proofs.sweep.Statement.{statement}
+use Rattle.actions.proofs.sweep.Tie as tie
 
 record Sweeping (destinations weights claims ranks : List ℕ) (lo hi total low j : ℕ) : Type 0 where
   weighing : Weighing destinations weights claims lo hi total j
