@@ -1,34 +1,32 @@
 -- The whole check, put together from its parts. Assumes nothing.
-use mathlib.Core.Path.{_≡_, refl, sym, ap, subst, fun-ext, _∙_}
+use mathlib.Core.Path.{_≡_, refl, sym, ap, fun-ext, _∙_}
 use mathlib.Core.Bool.{Bool, true, false, cond, not, _&&_}
 use mathlib.Core.List.{List, [], _∷_, _++_}
-use Prim.Native.Nat.{ℕ, _+_, _≤_, _<_, _^_, zero-le}
+use Prim.Native.Nat.{ℕ, _≤_, _<_, _^_, zero-le}
 use native.Mathlib.Nat.{le-refl}
 use native.Mathlib.Omega.{arith}
 use lib.Dec.{T}
 use lib.ListN.{length, take, drop}
 use lib.Seq.{take-at}
-use borrow.Author.Tests.{not-true, not-false}
-use Rattle.walk.specs.Fold.{listed, first}
+use Rattle.walk.specs.Fold.{listed}
 use Rattle.walk.proofs.Bools.{is-true}
 use Rattle.walk.proofs.Fold.{lowest-is, listed-length}
 use Rattle.model.specs.declared.answers.Verdict.{Verdict}
-use Rattle.model.specs.declared.answers.Verdict.the-variants.{Accepted, Refused, Violated}
+use Rattle.model.specs.declared.answers.Verdict.the-variants.{Accepted, Refused}
 use Rattle.model.specs.declared.answers.Answer.{Answer}
 use Rattle.model.specs.declared.kinds.Kind.{Kind}
-use Rattle.model.specs.declared.kinds.Known.{Known}
 use Rattle.model.specs.declared.kinds.Known.the-variants.{As, Nothing}
 use Rattle.model.specs.Kinds.{isSome, isKind, kindOf, knownAs, Columns}
 use Rattle.model.specs.Tables.{Model, Claim, states}
 use Rattle.model.specs.Answers.{pass, then, tried, require}
 use Rattle.model.specs.Refusals.{entries, lengthsOf, kindTest, sizesOf, sizeTests, rowTests, rangesOf, rangeTests, tests}
-use Rattle.model.specs.WellFormed.{Sized, Counted, InRange, WellFormed}
+use Rattle.model.specs.WellFormed.{Sized}
 use Rattle.model.specs.Conditions.{judged}
-use Rattle.model.specs.Checked.{accepts, greatestRank, conditions, verdictOf, answerOf, choice, chosenOf, choicesOf}
-use Rattle.model.proofs.Tried.{tried-append, tried-all, tried-passed, then-passed, then-stopped, then-assoc, each-all}
+use Rattle.model.specs.Checked.{accepts, greatestRank, conditions, verdictOf, refusalOf, answerOf, choice, chosenOf, choicesOf}
+use Rattle.model.proofs.Tried.{tried-append, tried-all, then-passed, then-stopped, then-assoc, each-all}
 use Rattle.model.proofs.Formed.{sized, formed}
 use Rattle.rows.specs.Fitting.{Fitting}
-use Rattle.conditions.specs.Ready.{Ready}
+use Rattle.actions.specs.Ready.{Ready}
 use Rattle.conditions.specs.Judging.{picked, broken, roomOf}
 use Rattle.soundness.proofs.Demand3.{demand3}
 use Rattle.checker.specs.Promise.{Checked}
@@ -229,3 +227,11 @@ module _ (kind : ℕ) (t : Model) (u : Claim) (before after : List ℕ) where
   unknown-kept e q =
       let f = sym (verdict-none (unnamed kind e)) in
       promise kind t u before _ after (answers (Refused 1 0) f) (q ∙ unchosen (kindOf kind) t u before (Refused 1 0) refl ∙ chooses (Refused 1 0) f)
+
+  pub known-refused : (v : Verdict) (k : Kind) → As k ≡ knownAs kind → v ≡ tried (tests k t u before) pass → v ≡ refusalOf kind t u before
+  unfolding refusalOf then kindTest require
+  known-refused v k e p = let n = named k kind e in p ∙ ap (λ (x : Kind). tried (tests x t u before) pass) (n .1) ∙ rw (n .0)
+
+  pub unknown-refused : Nothing ≡ knownAs kind → Refused 1 0 ≡ refusalOf kind t u before
+  unfolding refusalOf then kindTest require
+  unknown-refused e = rw (unnamed kind e)

@@ -8,8 +8,8 @@ ghost use Rattle.model.specs.Tables.{modelOf, claimOf};
 ghost use Rattle.model.specs.Answers.{pass, tried};
 ghost use Rattle.model.specs.Kinds.{Columns};
 ghost use Rattle.model.specs.Refusals.{entries, tests};
-ghost use Rattle.model.specs.Checked.{conditions, verdictOf, chosenOf};
-ghost use Rattle.conditions.specs.Ready.{Ready};
+ghost use Rattle.model.specs.Checked.{chosenOf, conditions, refusalOf, verdictOf};
+ghost use Rattle.actions.specs.Ready.{Ready};
 ghost use Rattle.checker.specs.Promise.{Checked};
 use model::Answer;
 use model::Kind;
@@ -213,6 +213,45 @@ pub fn check(
                 number: Refusal::KIND,
                 place: 0,
             },
+        },
+    }
+}
+
+// The refusal from 1 to 14 that stands over the lent tables, or a pass. It writes nothing.
+pub fn refuse(
+    kind: u32,
+    d: u32,
+    c: u32,
+    marks: &[u8],
+    action_starts: &[u32],
+    branch_starts: &[u32],
+    destinations: &[u32],
+    weights: &[u32],
+    costs: &[u32],
+    claims: &[u64],
+    ranks: &[u32],
+    choices: &[u32],
+) -> Verdict
+    ensures { λ r. ⌜ r ≡ refusalOf kind (modelOf d (now (marks .entry)) (now («action_starts» .entry)) (now («branch_starts» .entry)) (now (destinations .entry)) (now (weights .entry))) (claimOf c (now (costs .entry)) (now (claims .entry)) (now (ranks .entry))) (now (choices .entry)) ⌝ }
+{
+    match model::kind_of(kind) {
+        Known::As(k) => refusals(
+            k,
+            d,
+            c,
+            marks,
+            action_starts,
+            branch_starts,
+            destinations,
+            weights,
+            costs,
+            claims,
+            ranks,
+            choices,
+        ),
+        Known::Nothing => Verdict::Refused {
+            number: Refusal::KIND,
+            place: 0,
         },
     }
 }

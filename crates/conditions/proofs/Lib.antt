@@ -1,4 +1,2 @@
-mod Action
 mod State
 mod States
-mod Weighing

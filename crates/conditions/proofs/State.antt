@@ -1,27 +1,26 @@
 -- One state: what its conditions say, by the lowest actions that the code looks for. Assumes nothing.
 use mathlib.Core.Path.{_≡_, refl, sym, ap, subst, fun-ext, _∙_}
 use mathlib.Core.Bool.{Bool, true, false, Bool·beq, cond, not, _&&_, _||_}
-use mathlib.Core.List.{List, [], _∷_}
-use mathlib.Core.Logic.{_⊎_, inl, inr, ⊎-elim}
+use mathlib.Core.Logic.{⊎-elim}
 use Prim.Native.Nat.{ℕ, _+_, _≤_, _<_}
 use native.Mathlib.Nat.{le-refl}
 use native.Mathlib.Omega.{arith}
-use lib.Dec.{T, ltb, eqb}
+use lib.Dec.{T, eqb}
 use borrow.Author.Tests.{lt-ltb, le-ltb}
 use Rattle.walk.specs.Fold.{any, all, first}
 use Rattle.walk.proofs.Bools.{holds, is-true, and-left, and-right}
-use Rattle.walk.proofs.Fold.{at-end, Lowest, lowest, lowest-is}
-use Rattle.model.specs.declared.answers.Verdict.{Verdict}
+use Rattle.walk.proofs.Fold.{at-end, lowest, lowest-is}
 use Rattle.model.specs.declared.answers.Verdict.the-variants.{Violated}
 use Rattle.model.specs.declared.kinds.Kind.{Kind}
 use Rattle.model.specs.Limits.{none}
 use Rattle.model.specs.Kinds.{isAtLeast, isSome}
-use Rattle.model.specs.Tables.{Model, Claim, target, firstAction, claim, rank, ranked}
+use Rattle.model.specs.Tables.{Model, Claim, target, firstAction, claim, ranked}
 use Rattle.model.specs.Answers.{pass, then, tried}
 use Rattle.model.specs.Conditions.{suits, falls, everyAction, someAction, lowestAction, ask, askActions, targetAsks, condition21, condition22, condition23, asksFall, condition24, judged}
 use Rattle.model.specs.Checked.{accepts, choice}
-use Rattle.model.proofs.Tried.{settled, then-passed, then-stopped}
-use Rattle.conditions.specs.Judging.{keeps, lowestOf, picked}
+use Rattle.model.proofs.Tried.{settled}
+use Rattle.actions.specs.Judging.{keeps, lowestOf}
+use Rattle.conditions.specs.Judging.{picked}
 
 -- Bools as the code meets them
 

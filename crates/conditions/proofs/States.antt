@@ -1,16 +1,13 @@
 -- The states in order: what the loop has shown at state s, and what each way out of it answers. Assumes nothing.
-use mathlib.Core.Path.{_≡_, refl, sym, _∙_}
-use mathlib.Core.Bool.{Bool, true, false, not}
-use mathlib.Core.List.{List, _++_}
+use mathlib.Core.Path.{_≡_, _∙_}
+use mathlib.Core.Bool.{false, not}
+use mathlib.Core.List.{List}
 use Prim.Native.Nat.{ℕ, _+_, _≤_, _<_, zero-le}
-use native.Mathlib.Nat.{le-refl}
 use native.Mathlib.Omega.{arith}
 use lib.Dec.{T}
-use lib.ListN.{length, set, drop}
-use Rattle.walk.specs.Fold.{listed}
+use lib.ListN.{length, set}
 use Rattle.walk.proofs.Bools.{is-true}
 use Rattle.walk.proofs.Loop.{Seeking, seek-start, seek-pass, seek-hit, seek-end, Filling, fill-start, fill-pass, fill-length}
-use Rattle.model.specs.declared.answers.Verdict.{Verdict}
 use Rattle.model.specs.declared.answers.Verdict.the-variants.{Accepted}
 use Rattle.model.specs.declared.kinds.Kind.{Kind}
 use Rattle.model.specs.Tables.{Model, Claim, states}

@@ -1,27 +1,25 @@
 -- No refusal from 2 to 14 stands exactly where the tables are well formed. Assumes nothing.
-use mathlib.Core.Path.{_≡_, refl, sym, ap, subst, _∙_}
-use mathlib.Core.Bool.{Bool, true, false, cond, not, _&&_, _||_}
+use mathlib.Core.Path.{_≡_, refl, sym, subst}
+use mathlib.Core.Bool.{Bool, true, false, cond, not, _||_}
 use mathlib.Core.List.{List, [], _∷_, _++_}
-use mathlib.Core.Logic.{_⊎_, inl, inr, ⊎-elim}
+use mathlib.Core.Logic.{_⊎_, inl, inr}
 use Prim.Native.Nat.{ℕ, zero, suc, _+_, _-_, _≤_, _<_, zero-le}
-use native.Mathlib.Nat.{le-refl, add-suc, suc-sub-suc}
-use native.Mathlib.Numerals.{add-one, sub-one}
+use native.Mathlib.Numerals.{add-one}
 use native.Mathlib.Omega.{arith}
-use lib.Dec.{T, leb, ltb, eqb, leb→le, le→leb, ltb→lt, lt→ltb, eqb→eq, eqb-refl}
+use lib.Dec.{T, leb, ltb, eqb, leb→le, le→leb, ltb→lt, lt→ltb, eqb→eq}
 use lib.ListN.{length, getD}
-use borrow.Author.Tests.{eq-eqb, ne-eqb, le-leb, lt-ltb}
+use borrow.Author.Tests.{eq-eqb, ne-eqb}
 use Rattle.walk.specs.Fold.{sum}
 use Rattle.walk.proofs.Bools.{holds, both, and-left, and-right}
-use Rattle.model.specs.declared.answers.Verdict.{Verdict}
 use Rattle.model.specs.declared.kinds.Kind.{Kind}
 use Rattle.model.specs.Limits.{mostStates, mostActions, mostBranches, mostWeightScale, mostClaimScale, mostCost, none}
 use Rattle.model.specs.Kinds.{isCost}
 use Rattle.model.specs.Tables.{Model, Claim, states, actions, branches, firstBranch, destination, weight, scale, cost, claim, rank}
-use Rattle.model.specs.Answers.{pass, tried, each, require, throughout}
+use Rattle.model.specs.Answers.{pass, require}
 use Rattle.model.specs.Checked.{accepts}
 use Rattle.model.specs.Refusals.{between, entries, limitOf, weightScaleTest, claimScaleTest, statesTest, lengthTest, modelLengths, claimLengths, startRight, startsTest, marksTest, branchTest, totalTest, actionTest, walkTest, rowTests, costsTest, claimsTest, ranksTest, sizeTests, rangesOf, rangeTests, tests}
 use Rattle.model.specs.WellFormed.{Sized, Starts, Row, Counted, InRange, WellFormed}
-use Rattle.model.proofs.Tried.{AllPass, all-append, append-all, tried-passed, tried-all, tried-last, require-right, right-require, passes-require, each-all, each-last, all-each, throughout-all, all-throughout}
+use Rattle.model.proofs.Tried.{AllPass, all-append, append-all, tried-passed, tried-all, require-right, passes-require, each-all, each-last, all-each, throughout-all, all-throughout}
 
 eq→eqb : (a b : ℕ) → a ≡ b → T (eqb a b)
 eq→eqb a b e = holds (eq-eqb a b e)

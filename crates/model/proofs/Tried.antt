@@ -1,16 +1,16 @@
 -- Tests tried in order: what follows when they pass, and what stands when one does not. Assumes nothing.
 use mathlib.Core.Path.{_≡_, refl, sym, ap, subst, _∙_}
-use mathlib.Core.Bool.{Bool, true, false, cond, not, _&&_}
+use mathlib.Core.Bool.{Bool, true, false, not}
 use mathlib.Core.List.{List, [], _∷_, _++_}
 use mathlib.Core.Logic.{_⊎_, inl, inr, ⊎-elim}
 use Prim.Native.Nat.{ℕ, _+_, _≤_, _<_, zero-le}
 use native.Mathlib.Nat.{le-refl}
 use native.Mathlib.Omega.{arith}
-use lib.Dec.{T, ltb}
+use lib.Dec.{T}
 use borrow.Author.Tests.{lt-ltb, le-ltb, not-true, not-false}
-use Rattle.walk.specs.Fold.{from, first, any}
-use Rattle.walk.proofs.Bools.{holds, is-true, is-false}
-use Rattle.walk.proofs.Fold.{down, at-end, from-end, from-step, first-end, lowest, Lowest}
+use Rattle.walk.specs.Fold.{first, any}
+use Rattle.walk.proofs.Bools.{holds}
+use Rattle.walk.proofs.Fold.{down, at-end, from-end, from-step, lowest, Lowest}
 use Rattle.walk.proofs.Loop.{Seeking, seek-start, seek-pass, seek-hit, seek-end}
 use Rattle.model.specs.declared.answers.Verdict.{Verdict}
 use Rattle.model.specs.declared.answers.Verdict.the-variants.{Accepted, Refused, Violated}

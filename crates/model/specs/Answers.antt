@@ -1,6 +1,6 @@
 -- What comes back: a verdict, its number and values in document 01, and tests tried in order.
 use Prim.Native.Nat.{ℕ}
-use mathlib.Core.Bool.{Bool, true, false, cond, not, _&&_}
+use mathlib.Core.Bool.{Bool, true, cond, not, _&&_}
 use mathlib.Core.List.{List, [], _∷_}
 use lib.Dec.{leb}
 use Rattle.walk.specs.Fold.{from, first, any}

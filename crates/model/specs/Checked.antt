@@ -1,7 +1,7 @@
 -- The whole check: refusals, then the conditions of the states in order, then acceptance with R and the choices.
 use Prim.Native.Nat.{ℕ}
 use mathlib.Core.Bool.{Bool, true, false, cond, _&&_}
-use mathlib.Core.List.{List, _∷_}
+use mathlib.Core.List.{List}
 use lib.Dec.{eqb}
 use lib.ListN.{length, getD}
 use Rattle.walk.specs.Fold.{greatest, listed}
@@ -12,7 +12,7 @@ use Rattle.model.specs.declared.kinds.Kind.{Kind}
 use Rattle.model.specs.Limits.{none}
 use Rattle.model.specs.Kinds.{kindOf}
 use Rattle.model.specs.Tables.{Model, Claim, states, target}
-use Rattle.model.specs.Answers.{then, tried, each}
+use Rattle.model.specs.Answers.{pass, then, tried, each}
 use Rattle.model.specs.Refusals.{kindTest, tests}
 use Rattle.model.specs.Conditions.{suits, falls, lowestAction, asksFall, judged}
 
@@ -34,6 +34,11 @@ conditions k t u = each (judged k t u) 0 (states t) (Accepted (greatestRank (u .
 unfoldable pub verdictOf : Kind → Model → Claim → List ℕ → Verdict
 unfolding tried tests conditions
 verdictOf k t u choices = tried (tests k t u choices) (conditions k t u)
+
+-- the refusal from 1 to 14 that stands, or a pass
+unfoldable pub refusalOf : ℕ → Model → Claim → List ℕ → Verdict
+unfolding then kindTest tried tests
+refusalOf kind t u choices = then (kindTest kind) (tried (tests (kindOf kind) t u choices) pass)
 
 -- the answer: the kind's number as lent, and the verdict
 unfoldable pub answerOf : ℕ → Model → Claim → List ℕ → Answer

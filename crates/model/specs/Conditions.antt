@@ -1,7 +1,7 @@
 -- The fixed point conditions 21 to 24 of a state, in the order in which they are tried.
 use Prim.Native.Nat.{ℕ, _+_, _*_}
 use mathlib.Core.Bool.{Bool, true, cond, not, _&&_, _||_}
-use mathlib.Core.List.{List, [], _∷_}
+use mathlib.Core.List.{[], _∷_}
 use lib.Dec.{leb, ltb, eqb}
 use Rattle.walk.specs.Fold.{sum, any, all, first}
 use Rattle.model.specs.declared.answers.Verdict.{Verdict}

@@ -10,7 +10,7 @@ use Rattle.model.specs.declared.kinds.Kind.{Kind}
 use Rattle.model.specs.declared.limits.Lengths.{Lengths}
 use Rattle.model.specs.Limits.{mostStates, mostActions, mostBranches, mostWeightScale, mostClaimScale, mostCost, mostCostClaim, none}
 use Rattle.model.specs.Kinds.{isCost, isKind}
-use Rattle.model.specs.Tables.{Model, Claim, states, actions, branches, firstAction, firstBranch, destination, weight, scale}
+use Rattle.model.specs.Tables.{Model, Claim, states, actions, branches, firstBranch, destination, weight, scale}
 use Rattle.model.specs.Answers.{pass, tried, each, require, throughout}
 
 abbrev pub between : ℕ → ℕ → ℕ → Bool

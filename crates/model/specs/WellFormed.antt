@@ -1,7 +1,7 @@
 -- Well-formed tables, as propositions: what holds where no refusal from 2 to 14 stands.
-use Prim.Native.Nat.{ℕ, _+_, _-_, _≤_, _<_}
+use Prim.Native.Nat.{ℕ, _+_, _≤_, _<_}
 use mathlib.Core.Path.{_≡_}
-use mathlib.Core.Bool.{Bool, true, false, cond}
+use mathlib.Core.Bool.{true}
 use mathlib.Core.List.{List}
 use mathlib.Core.Logic.{_⊎_}
 use lib.ListN.{length, getD}
@@ -9,7 +9,7 @@ use Rattle.walk.specs.Fold.{sum}
 use Rattle.model.specs.declared.kinds.Kind.{Kind}
 use Rattle.model.specs.Limits.{mostStates, mostActions, mostBranches, mostWeightScale, mostClaimScale, mostCost, none}
 use Rattle.model.specs.Kinds.{isCost}
-use Rattle.model.specs.Tables.{Model, Claim, states, actions, branches, firstAction, firstBranch, destination, weight, scale, cost, claim, rank}
+use Rattle.model.specs.Tables.{Model, Claim, states, actions, branches, firstBranch, destination, weight, scale, cost, claim, rank}
 use Rattle.model.specs.Refusals.{entries, limitOf}
 
 -- 2 to 5: scales, counts and lengths are right

@@ -1,22 +1,18 @@
 -- The walk over one action's branches: what it has shown at branch j, and what each way out of it answers. Assumes nothing.
-use mathlib.Core.Path.{_≡_, refl, sym, subst, _∙_}
-use mathlib.Core.Bool.{Bool, true, false, not, _&&_}
-use mathlib.Core.List.{List, [], _∷_}
+use mathlib.Core.Path.{_≡_, sym, _∙_}
 use Prim.Native.Nat.{ℕ, _+_, _*_, _≤_, _<_, zero-le}
 use native.Mathlib.Nat.{le-of-lt}
 use native.Mathlib.Omega.{arith}
-use lib.Dec.{T, leb, ltb, eqb}
-use lib.ListN.{length, getD}
+use lib.Dec.{eqb}
+use lib.ListN.{length}
 use borrow.Author.Tests.{lt-ltb, le-ltb, le-leb, lt-leb, eq-eqb, ne-eqb}
 use Rattle.walk.specs.Fold.{sum}
 use Rattle.walk.proofs.Bools.{holds}
 use Rattle.walk.proofs.Loop.{Summing, sum-start, sum-pass, sum-ends}
-use Rattle.model.specs.declared.answers.Verdict.{Verdict}
 use Rattle.model.specs.declared.answers.Verdict.the-variants.{Refused}
-use Rattle.model.specs.Tables.{Model, states, actions, branches, firstBranch, destination, weight, scale}
-use Rattle.model.specs.Answers.{pass, tried, then, require}
-use Rattle.model.specs.Checked.{accepts}
-use Rattle.model.specs.Refusals.{between, branchTest, totalTest, actionTest}
+use Rattle.model.specs.Tables.{Model, states, branches, firstBranch, destination, weight, scale}
+use Rattle.model.specs.Answers.{pass, then, require}
+use Rattle.model.specs.Refusals.{branchTest, totalTest, actionTest}
 use Rattle.model.specs.WellFormed.{Starts}
 use Rattle.model.proofs.Tried.{Trying, try-start, try-pass, try-stop, try-end, right-require, wrong-require}
 use Rattle.model.proofs.Rising.{start-below}

@@ -1,5 +1,5 @@
 -- What the row tests ask of a model before they count: the lengths of its tables.
-use Prim.Native.Nat.{ℕ, _+_, _≤_}
+use Prim.Native.Nat.{_+_, _≤_}
 use mathlib.Core.Path.{_≡_}
 use lib.ListN.{length}
 use Rattle.model.specs.Limits.{mostStates, mostActions, mostBranches}

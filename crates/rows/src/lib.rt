@@ -1,10 +1,9 @@
 // Rows counted: refusals 6 to 11, over tables 1 to 5 whose lengths are right.
 ghost use mathlib.Core.Path.{_≡_};
-ghost use mathlib.Core.Bool.{Bool};
-ghost use Prim.Native.Nat.{_+_, _-_, _≤_, _<_, _^_};
+ghost use Prim.Native.Nat.{_+_, _-_, _<_, _^_};
 ghost use lib.ListN.{length};
 ghost use Rattle.model.specs.Answers.{pass, tried};
-ghost use Rattle.model.specs.Tables.{modelOf, actions, branches};
+ghost use Rattle.model.specs.Tables.{modelOf};
 ghost use Rattle.model.specs.Refusals.{startRises, startEnds, startRight, startsTest, marksTest, actionTest, walkTest, rowTests};
 ghost use Rattle.model.specs.WellFormed.{Starts};
 ghost use Rattle.rows.specs.Fitting.{Fitting};

@@ -1,17 +1,17 @@
 -- The laws of the folds over an index range. Assumes nothing.
-use mathlib.Core.Path.{_≡_, refl, sym, ap, subst, _∙_}
-use mathlib.Core.Bool.{Bool, true, false, cond, not}
-use mathlib.Core.List.{List, [], _∷_, _++_, append-assoc}
+use mathlib.Core.Path.{_≡_, refl, ap, subst, _∙_}
+use mathlib.Core.Bool.{Bool, true, false, cond}
+use mathlib.Core.List.{[], _∷_, _++_}
 use mathlib.Core.Logic.{_⊎_, inl, inr, ⊎-elim}
 use Prim.Native.Nat.{ℕ, zero, suc, _+_, _-_, _*_, _≤_, _<_, max, min}
-use native.Mathlib.Nat.{sub-eq-zero-of-le, add-assoc, zero-add, le-refl, le-trans, max-le, le-max-left, le-max-right, mul-le-mul-left, mul-le-mul-right, mul-add, mul-zero, mul-comm}
+use native.Mathlib.Nat.{sub-eq-zero-of-le, le-refl}
 use native.Mathlib.Numerals.{add-one}
 use native.Mathlib.Decide.{decLe}
 use native.Mathlib.Omega.{arith}
-use lib.Dec.{T, eqb, ltb}
+use lib.Dec.{T, ltb}
 use lib.ListN.{length, getD}
-use borrow.Author.Tests.{lt-ltb, le-ltb, ltb-true, ltb-false}
-use Rattle.walk.specs.Fold.{times, from, first, any, all, sum, greatest, least, listed}
+use borrow.Author.Tests.{lt-ltb, le-ltb}
+use Rattle.walk.specs.Fold.{times, from, first, any, sum, greatest, least, listed}
 
 -- an index is at the end of its range, or before it
 pub at-end : (i hi : ℕ) → (hi ≤ i) ⊎ (i < hi)
@@ -179,7 +179,10 @@ term-le f hi k = down
     (λ i h l u. absurd (omega arith))
     (λ i h ih l u.
     rw (sum-step f i hi h)
-    (⊎-elim (λ w. let q : k ≡ i = omega arith in rw q (omega arith)) (λ w. let b = ih (omega arith) u in omega arith) (at-end i k)))
+    (⊎-elim
+        (λ (w : k ≤ i). let q : k ≡ i = omega arith in rw q (omega arith))
+        (λ (w : i < k). let b = ih (omega arith) u in omega arith)
+        (at-end i k)))
 
 -- what is listed has as many entries as the range, and f of the index at each
 pub listed-length : (f : ℕ → ℕ) (hi lo : ℕ) → length (listed f lo hi) ≡ hi - lo
@@ -222,7 +225,10 @@ le-greatest f hi k = down
     (λ i h l u. absurd (omega arith))
     (λ i h ih l u.
     rw (greatest-step f i hi h)
-    (⊎-elim (λ w. let q : k ≡ i = omega arith in rw q (omega arith)) (λ w. let b = ih (omega arith) u in omega arith) (at-end i k)))
+    (⊎-elim
+        (λ (w : k ≤ i). let q : k ≡ i = omega arith in rw q (omega arith))
+        (λ (w : i < k). let b = ih (omega arith) u in omega arith)
+        (at-end i k)))
 
 -- it is one of them, or 0
 pub greatest-is : (f : ℕ → ℕ) (hi lo : ℕ) → (greatest f lo hi ≡ 0) ⊎ ((i : ℕ) × (lo ≤ i) × (i < hi) × (f i ≡ greatest f lo hi))

@@ -1,8 +1,8 @@
 -- Folds over an index range: what the loops of this project compute.
 use Prim.Native.Nat.{ℕ, zero, suc, _+_, _-_, max, min}
-use mathlib.Core.Bool.{Bool, cond, not, _||_}
+use mathlib.Core.Bool.{Bool, cond, not}
 use mathlib.Core.List.{List, [], _∷_}
-use lib.Dec.{eqb, ltb}
+use lib.Dec.{ltb}
 
 module _ {A : Type 0} where
   -- the step at i, then at the next index, and so on k times; z where they end

@@ -1,5 +1,5 @@
 -- `checker::check` meets its contract: the kind's number names a kind, or is refused. Assumes nothing.
-use mathlib.Core.Path.{_≡_, refl, sym, subst, _∙_}
+use mathlib.Core.Path.{refl, sym, subst, _∙_}
 use borrow.Author.Needs.{needs}
 use Rattle.model.specs.Kinds.{Columns}
 use Rattle.model.specs.declared.kinds.Kind.{Kind}

@@ -1,11 +1,10 @@
 -- `checker::copy` meets its contract: the choices below s are those of the room. Assumes nothing.
-use mathlib.Core.Path.{_≡_, refl, sym, ap, _∙_}
-use mathlib.Core.List.{List, [], _++_, append-nil}
-use Prim.Native.Nat.{ℕ, _-_}
+use mathlib.Core.Path.{refl, _∙_}
+use mathlib.Core.List.{append-nil}
+use Prim.Native.Nat.{_-_}
 use native.Mathlib.Nat.{le-refl}
 use native.Mathlib.Omega.{arith}
-use lib.ListN.{length, getD, take, drop, drop-of-length-le}
-use Rattle.walk.specs.Fold.{listed}
+use lib.ListN.{length, getD, drop-of-length-le}
 use Rattle.walk.proofs.Loop.{Filling, fill-start, fill-pass, fill-end, fill-length, listed-take}
 use Rattle.checker.proofs.copy.Statement.{statement}
 use Rattle.checker.proofs.copy.Tie as tie

@@ -1,5 +1,5 @@
 -- `checker::refusals` meets its contract: sizes, rows and ranges, tried in order. Assumes nothing.
-use mathlib.Core.Path.{_≡_, sym, _∙_}
+use mathlib.Core.Path.{_∙_}
 use borrow.Author.Needs.{needs}
 use lib.Dec.{T}
 use Rattle.model.specs.Checked.{accepts}

@@ -6,7 +6,7 @@ use borrow.Author.Needs.{needs}
 use borrow.Author.Tests.{not-true, not-false}
 use Rattle.model.specs.Kinds.{isAtLeast}
 use Rattle.model.specs.Conditions.{asksFall}
-use Rattle.conditions.proofs.Action.{has-rank}
+use Rattle.actions.proofs.Action.{has-rank}
 use Rattle.conditions.proofs.fall_asked.Statement.{statement}
 use Rattle.conditions.proofs.fall_asked.Tie as tie
 

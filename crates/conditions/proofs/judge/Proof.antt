@@ -1,11 +1,10 @@
 -- `conditions::judge` meets its contract: the states below s meet their conditions, and their choices stand in the room.
 -- Assumes nothing.
-use mathlib.Core.Path.{_≡_, sym, ap, _∙_}
+use mathlib.Core.Path.{ap, _∙_}
 use Prim.Native.Nat.{ℕ, _-_}
 use native.Mathlib.Omega.{arith}
 use lib.ListN.{length}
 use borrow.Author.Needs.{needs}
-use Rattle.model.specs.declared.answers.Verdict.{Verdict}
 use Rattle.model.specs.declared.answers.Verdict.the-variants.{Accepted}
 use Rattle.model.specs.Tables.{modelOf, claimOf}
 use Rattle.model.proofs.Tried.{goes, stops}

@@ -1,10 +1,10 @@
 -- `conditions::judge_every` meets its contract: what the two sweeps find says which condition breaks first. Assumes nothing.
-use mathlib.Core.Path.{_≡_, sym, _∙_}
+use mathlib.Core.Path.{sym, _∙_}
 use mathlib.Core.Bool.{false≢true}
 use Prim.Native.Nat.{_+_}
 use native.Mathlib.Omega.{arith}
 use borrow.Author.Needs.{needs}
-use Rattle.conditions.proofs.Action.{rising}
+use Rattle.actions.proofs.Action.{rising}
 use Rattle.conditions.proofs.State.{asked-least, every-kept, every-unsuited, every-unfallen}
 use Rattle.conditions.proofs.judge_every.Statement.{statement}
 use Rattle.conditions.proofs.judge_every.Tie as tie

@@ -1,13 +1,11 @@
 -- `conditions::judge_some` meets its contract: what the two sweeps find says which condition breaks first, or the choice.
 -- Assumes nothing.
-use mathlib.Core.Path.{_≡_, sym, ap, _∙_}
-use mathlib.Core.Bool.{Bool, false≢true}
-use Prim.Native.Nat.{ℕ, _+_, _<_, _≤_}
+use mathlib.Core.Path.{sym, _∙_}
+use mathlib.Core.Bool.{false≢true}
+use Prim.Native.Nat.{_+_}
 use native.Mathlib.Omega.{arith}
 use borrow.Author.Needs.{needs}
-use lib.Dec.{T}
-use Rattle.model.specs.Checked.{accepts}
-use Rattle.conditions.proofs.Action.{rising}
+use Rattle.actions.proofs.Action.{rising}
 use Rattle.conditions.proofs.State.{asked-least, some-kept, some-picked, some-unsuited, some-unfallen}
 use Rattle.conditions.proofs.judge_some.Statement.{statement}
 use Rattle.conditions.proofs.judge_some.Tie as tie

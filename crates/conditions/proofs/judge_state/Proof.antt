@@ -1,9 +1,8 @@
 -- `conditions::judge_state` meets its contract: a target, or a non-target by the strategies asked for. Assumes nothing.
-use mathlib.Core.Path.{_≡_, sym, _∙_}
-use mathlib.Core.Bool.{true, false}
+use mathlib.Core.Path.{sym, _∙_}
 use borrow.Author.Needs.{needs}
 use borrow.Author.Tests.{eq-eqb, ne-eqb}
-use Rattle.conditions.proofs.Action.{rising}
+use Rattle.actions.proofs.Action.{rising}
 use Rattle.conditions.proofs.State.{target-picked, none-picked}
 use Rattle.conditions.proofs.judge_state.Statement.{statement}
 use Rattle.conditions.proofs.judge_state.Tie as tie

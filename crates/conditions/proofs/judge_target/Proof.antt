@@ -1,9 +1,9 @@
 -- `conditions::judge_target` meets its contract. Assumes nothing.
-use mathlib.Core.Path.{_≡_, sym, _∙_}
+use mathlib.Core.Path.{sym, _∙_}
 use native.Mathlib.Omega.{arith}
 use borrow.Author.Needs.{needs}
 use borrow.Author.Tests.{not-true, not-false}
-use Rattle.conditions.proofs.Action.{has-claim}
+use Rattle.actions.proofs.Action.{has-claim}
 use Rattle.conditions.proofs.State.{target-met, target-broken}
 use Rattle.conditions.proofs.judge_target.Statement.{statement}
 use Rattle.conditions.proofs.judge_target.Tie as tie

@@ -1,14 +1,14 @@
 -- `conditions::rank_test` meets its contract. Assumes nothing.
 use mathlib.Core.Path.{_≡_, sym, _∙_}
-use mathlib.Core.Bool.{true, false}
+use mathlib.Core.Bool.{true}
 use native.Mathlib.Omega.{arith}
 use borrow.Author.Needs.{needs}
-use borrow.Author.Tests.{not-true, not-false, eq-eqb, ne-eqb}
+use borrow.Author.Tests.{not-true, not-false, ne-eqb}
 use lib.ListN.{getD}
 use Rattle.model.specs.Limits.{none}
 use Rattle.model.specs.Kinds.{isAtLeast}
 use Rattle.model.specs.Conditions.{condition23, ask}
-use Rattle.conditions.proofs.Action.{has-rank, has-claim}
+use Rattle.actions.proofs.Action.{has-rank, has-claim}
 use Rattle.conditions.proofs.rank_test.Statement.{statement}
 use Rattle.conditions.proofs.rank_test.Tie as tie
 

@@ -6,8 +6,8 @@ use native.Mathlib.Omega.{arith}
 use borrow.Author.Needs.{needs}
 use lib.Dec.{T}
 use lib.ListN.{length}
-use Rattle.model.specs.Tables.{Model, actions, branches}
-use Rattle.model.specs.Answers.{pass, then, tried}
+use Rattle.model.specs.Tables.{Model, actions}
+use Rattle.model.specs.Answers.{pass, tried}
 use Rattle.model.specs.Checked.{accepts}
 use Rattle.model.specs.Refusals.{startRight, startsTest, marksTest, actionTest, walkTest, rowTests}
 use Rattle.model.proofs.Tried.{goes, stops, tried-go, tried-stop, settled, each-all, all-each, throughout-all}

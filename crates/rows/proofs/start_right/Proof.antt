@@ -1,5 +1,4 @@
 -- `rows::start_right` meets its contract. Assumes nothing.
-use mathlib.Core.Path.{sym, _∙_}
 use borrow.Author.Needs.{needs}
 use Rattle.model.specs.Refusals.{startRight}
 use Rattle.rows.proofs.start_right.Statement.{statement}

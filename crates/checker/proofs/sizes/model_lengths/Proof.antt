@@ -1,5 +1,5 @@
 -- `checker::sizes::model_lengths` meets its contract. Assumes nothing.
-use mathlib.Core.Path.{_≡_, ap, _∙_}
+use mathlib.Core.Path.{ap, _∙_}
 use mathlib.Core.Bool.{Bool}
 use lib.Dec.{eqb}
 use borrow.Author.Needs.{needs}

@@ -1,5 +1,5 @@
 -- `checker::sizes::sizes` meets its contract. Assumes nothing.
-use mathlib.Core.Path.{_≡_, ap, _∙_}
+use mathlib.Core.Path.{ap, _∙_}
 use mathlib.Core.Bool.{Bool}
 use borrow.Author.Needs.{needs}
 use Rattle.model.specs.Answers.{pass, then, require}

@@ -1,0 +1,227 @@
+//! The certificate file: reading it into lent tables, and writing one.
+
+use crate::check::{MAX_ACTIONS, MAX_BRANCHES, MAX_STATES};
+use crate::kind::Kind;
+
+/// Bytes before the tables: length field, version, kind, scales and counts.
+pub const HEADER_BYTES: usize = 26;
+const LENGTH_FIELD_BYTES: usize = 4;
+const VERSION: u8 = 1;
+
+/// The tables that a file is read into. Those a kind lacks may be empty.
+pub struct Lent<'a> {
+    pub marks: &'a mut [u8],
+    pub action_starts: &'a mut [u32],
+    pub branch_starts: &'a mut [u32],
+    pub destinations: &'a mut [u32],
+    pub weights: &'a mut [u32],
+    pub costs: &'a mut [u32],
+    pub claims: &'a mut [u64],
+    pub ranks: &'a mut [u32],
+}
+
+/// Kind, scales and counts of a file that was read.
+#[derive(Clone, Copy, Debug, PartialEq, Eq)]
+pub struct Header {
+    pub kind: u32,
+    pub d: u32,
+    pub c: u32,
+    pub states: usize,
+    pub actions: usize,
+    pub branches: usize,
+}
+
+/// Entries that a file holds of each table, 0 where the kind lacks it.
+pub struct Entries {
+    pub marks: usize,
+    pub action_starts: usize,
+    pub branch_starts: usize,
+    pub destinations: usize,
+    pub weights: usize,
+    pub costs: usize,
+    pub claims: usize,
+    pub ranks: usize,
+}
+
+/// A file's content as owned tables.
+#[derive(Clone, Debug, PartialEq, Eq)]
+pub struct Certificate {
+    pub kind: u32,
+    pub d: u32,
+    pub c: u32,
+    pub marks: Vec<u8>,
+    pub action_starts: Vec<u32>,
+    pub branch_starts: Vec<u32>,
+    pub destinations: Vec<u32>,
+    pub weights: Vec<u32>,
+    pub costs: Vec<u32>,
+    pub claims: Vec<u64>,
+    pub ranks: Vec<u32>,
+}
+
+/// Reads a file. A refusal gives its number (its place is 0) and writes
+/// nothing; success overwrites the first entries of each table present.
+pub fn read(bytes: &[u8], lent: &mut Lent) -> Result<Header, u32> {
+    if bytes.len() < HEADER_BYTES || !length_field_holds(bytes) {
+        return Err(31);
+    }
+    let mut reader = Reader {
+        bytes,
+        place: LENGTH_FIELD_BYTES,
+    };
+    if reader.byte() != VERSION {
+        return Err(32);
+    }
+    let number = u32::from(reader.byte());
+    let kind = Kind::numbered(number).ok_or(1u32)?;
+    let [d, c, n, m, b] = std::array::from_fn(|_| reader.word());
+    let header = counted(number, [d, c], [n, m, b]).ok_or(33u32)?;
+    let entries = Entries::of(&header, kind);
+    if !entries.fit(lent) {
+        return Err(33);
+    }
+    if entries.file_bytes() != bytes.len() as u64 {
+        return Err(34);
+    }
+    reader.tables(&entries, lent);
+    Ok(header)
+}
+
+fn length_field_holds(bytes: &[u8]) -> bool {
+    let mut reader = Reader { bytes, place: 0 };
+    u64::from(reader.word()) == (bytes.len() - LENGTH_FIELD_BYTES) as u64
+}
+
+/// The header, if its counts are within the limits.
+fn counted(kind: u32, [d, c]: [u32; 2], counts: [u32; 3]) -> Option<Header> {
+    let [states, actions, branches] = counts.map(|count| count as usize);
+    let within = states <= MAX_STATES && actions <= MAX_ACTIONS && branches <= MAX_BRANCHES;
+    within.then_some(Header {
+        kind,
+        d,
+        c,
+        states,
+        actions,
+        branches,
+    })
+}
+
+impl Entries {
+    pub fn of(header: &Header, kind: Kind) -> Entries {
+        let per_state_if = |present| if present { header.states } else { 0 };
+        Entries {
+            marks: header.states,
+            action_starts: header.states + 1,
+            branch_starts: header.actions + 1,
+            destinations: header.branches,
+            weights: header.branches,
+            costs: per_state_if(kind.cost),
+            claims: header.states,
+            ranks: per_state_if(kind.at_least),
+        }
+    }
+
+    fn fit(&self, lent: &Lent) -> bool {
+        self.marks <= lent.marks.len()
+            && self.action_starts <= lent.action_starts.len()
+            && self.branch_starts <= lent.branch_starts.len()
+            && self.destinations <= lent.destinations.len()
+            && self.weights <= lent.weights.len()
+            && self.costs <= lent.costs.len()
+            && self.claims <= lent.claims.len()
+            && self.ranks <= lent.ranks.len()
+    }
+
+    fn file_bytes(&self) -> u64 {
+        let words = self.action_starts
+            + self.branch_starts
+            + self.destinations
+            + self.weights
+            + self.costs
+            + self.ranks;
+        HEADER_BYTES as u64 + self.marks as u64 + 4 * words as u64 + 8 * self.claims as u64
+    }
+}
+
+/// The bytes of a file and the place reached in them.
+struct Reader<'a> {
+    bytes: &'a [u8],
+    place: usize,
+}
+
+impl Reader<'_> {
+    fn take<const COUNT: usize>(&mut self) -> [u8; COUNT] {
+        let end = self.place + COUNT;
+        let taken = std::array::from_fn(|offset| self.bytes[self.place + offset]);
+        self.place = end;
+        taken
+    }
+
+    fn byte(&mut self) -> u8 {
+        let [byte] = self.take();
+        byte
+    }
+
+    fn word(&mut self) -> u32 {
+        u32::from_be_bytes(self.take())
+    }
+
+    fn long(&mut self) -> u64 {
+        u64::from_be_bytes(self.take())
+    }
+
+    fn words(&mut self, into: &mut [u32]) {
+        into.fill_with(|| self.word());
+    }
+
+    fn tables(&mut self, entries: &Entries, lent: &mut Lent) {
+        lent.marks[..entries.marks].fill_with(|| self.byte());
+        self.words(&mut lent.action_starts[..entries.action_starts]);
+        self.words(&mut lent.branch_starts[..entries.branch_starts]);
+        self.words(&mut lent.destinations[..entries.destinations]);
+        self.words(&mut lent.weights[..entries.weights]);
+        self.words(&mut lent.costs[..entries.costs]);
+        lent.claims[..entries.claims].fill_with(|| self.long());
+        self.words(&mut lent.ranks[..entries.ranks]);
+    }
+}
+
+/// Makes a file out of tables. The counts are those of tables 1, 3 and 4; no
+/// entry is judged.
+pub fn write(certificate: &Certificate) -> Vec<u8> {
+    let states = certificate.marks.len();
+    let actions = certificate.branch_starts.len() - 1;
+    let branches = certificate.destinations.len();
+    let mut file = vec![0; LENGTH_FIELD_BYTES];
+    file.extend([VERSION, certificate.kind as u8]);
+    write_words(&mut file, &[certificate.d, certificate.c]);
+    write_words(
+        &mut file,
+        &[states, actions, branches].map(|count| count as u32),
+    );
+    file.extend(&certificate.marks);
+    write_words(&mut file, &certificate.action_starts);
+    write_words(&mut file, &certificate.branch_starts);
+    write_words(&mut file, &certificate.destinations);
+    write_words(&mut file, &certificate.weights);
+    write_words(&mut file, &certificate.costs);
+    file.extend(
+        certificate
+            .claims
+            .iter()
+            .flat_map(|claim| claim.to_be_bytes()),
+    );
+    write_words(&mut file, &certificate.ranks);
+    set_length_field(&mut file);
+    file
+}
+
+/// Makes the length field of a file of four bytes or more right.
+pub fn set_length_field(file: &mut [u8]) {
+    let length = (file.len() - LENGTH_FIELD_BYTES) as u32;
+    file[..LENGTH_FIELD_BYTES].copy_from_slice(&length.to_be_bytes());
+}
+
+fn write_words(file: &mut Vec<u8>, words: &[u32]) {
+    file.extend(words.iter().flat_map(|word| word.to_be_bytes()));
+}

@@ -1,0 +1,10 @@
+//! A second, independent implementation of the checker for claims about
+//! Markov decision processes, written from document 01 alone.
+
+pub mod check;
+mod conditions;
+pub mod file;
+pub mod generate;
+pub mod kind;
+pub mod program;
+pub mod stream;

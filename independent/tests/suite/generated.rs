@@ -1,0 +1,89 @@
+//! The generated cases reach every answer often enough.
+
+use std::collections::BTreeMap;
+
+use independent::check::Verdict;
+use independent::generate::case;
+use independent::kind::Kind;
+use independent::program::{answer, MAX_INPUT};
+use independent::stream::{read_case, write_case};
+
+const CASES: u64 = 2_000;
+const REFUSALS: [u32; 18] = [
+    1, 2, 3, 4, 5, 6, 7, 8, 9, 10, 11, 12, 13, 14, 31, 32, 33, 34,
+];
+
+fn assert_census(seed: u64) {
+    let mut totals = BTreeMap::new();
+    let mut by_kind = BTreeMap::new();
+    for index in 0..CASES {
+        let answer = answer(&case(seed, index));
+        let number = answer.verdict.number();
+        *totals.entry(number).or_insert(0) += 1;
+        *by_kind.entry((number, answer.kind)).or_insert(0) += 1;
+    }
+    for number in REFUSALS {
+        assert!(totals[&number] >= 20, "seed {seed}, {number}");
+    }
+    for kind in 1..=8 {
+        let count = |number| by_kind.get(&(number, Some(kind))).copied().unwrap_or(0);
+        assert!(count(0) >= 50, "seed {seed}, kind {kind}");
+        for number in 21..=24 {
+            let asked = Kind::numbered(kind).unwrap().has_condition(number);
+            assert!(
+                count(number) >= 20 || !asked,
+                "seed {seed}, {number}, {kind}"
+            );
+            assert!(count(number) == 0 || asked, "seed {seed}, {number}, {kind}");
+        }
+    }
+}
+
+#[test]
+fn every_answer_occurs_often_enough() {
+    for seed in [0, 1, 2, u64::MAX] {
+        assert_census(seed);
+    }
+}
+
+#[test]
+fn the_size_stays_small() {
+    let bytes: usize = (0..CASES).map(|index| 4 + case(1, index).len()).sum();
+    assert!(bytes < 500_000, "{bytes}");
+}
+
+#[test]
+fn the_room_is_filled_and_overfilled() {
+    let full = case(1, 999);
+    assert_eq!(full.len(), MAX_INPUT);
+    assert!(matches!(
+        answer(&full).verdict,
+        Verdict::Accepted { greatest_rank } if greatest_rank > 0
+    ));
+    assert_eq!(case(1, 1_999).len(), MAX_INPUT + 1);
+}
+
+#[test]
+fn the_same_seed_gives_the_same_cases() {
+    // FNV-1a over the first cases of seed 1, as found when this was written.
+    let bytes = (0..500).flat_map(|index| case(1, index));
+    let hash = bytes.fold(0xcbf2_9ce4_8422_2325, |hash: u64, byte| {
+        (hash ^ u64::from(byte)).wrapping_mul(0x0100_0000_01b3)
+    });
+    assert_eq!(hash, 0xeb57_a3ea_b0cd_fb34);
+}
+
+#[test]
+fn streams_are_read_back() {
+    let cases = [vec![], vec![1, 2, 3], vec![0; 300]];
+    let mut stream = Vec::new();
+    for case in &cases {
+        write_case(&mut stream, case).unwrap();
+    }
+    let mut input = stream.as_slice();
+    for case in cases {
+        assert_eq!(read_case(&mut input).unwrap(), Some(case));
+    }
+    assert_eq!(read_case(&mut input).unwrap(), None);
+    assert!(read_case(&mut &stream[4..10]).is_err());
+}
