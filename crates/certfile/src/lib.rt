@@ -6,8 +6,10 @@ pub use layout::Lengths;
 pub use layout::counts_of;
 ghost use mathlib.Core.Path.{_≡_};
 ghost use Rattle.certfile.specs.File.{outcomeOf};
+ghost use Rattle.certfile.specs.Layout.{listed};
 ghost use Rattle.certfile.specs.Tables.{tables, lent, ReadInto};
 ghost use Rattle.certfile.specs.declared.Outcome.the-variants.{Read};
+pub use layout::Lengths;
 
 // What a file says before its tables.
 pub struct Header {
@@ -101,6 +103,13 @@ fn fill(
     reader::read32(file, place.ranks, ranks, count.ranks);
 }
 
+// What reading a file into tables of these lengths would answer.
+pub fn preview(file: &[u8], room: Lengths) -> Outcome
+    ensures { λ r. ⌜ r ≡ outcomeOf (listed room) (now (file .entry)) ⌝ }
+{
+    judge::judge(file, room)
+}
+
 // Reads a file into lent tables: what it says before them, or the first refusal, which writes nothing.
 pub fn read(
     file: &[u8],
@@ -117,7 +126,7 @@ pub fn read(
         (tables (now (marks .entry)) (now («action_starts» .entry)) (now («branch_starts» .entry)) (now (destinations .entry)) (now (weights .entry)) (now (costs .entry)) (now (claims .entry)) (now (ranks .entry)))
         (tables (now (marks .exit)) (now («action_starts» .exit)) (now («branch_starts» .exit)) (now (destinations .exit)) (now (weights .exit)) (now (costs .exit)) (now (claims .exit)) (now (ranks .exit))) ⌝ }
 {
-    let room = layout::Lengths {
+    let room = Lengths {
         marks: marks.len(),
         action_starts: action_starts.len(),
         branch_starts: branch_starts.len(),

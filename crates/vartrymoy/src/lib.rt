@@ -6,7 +6,11 @@ ghost use lib.ListN.{length};
 ghost use Rattle.model.specs.Answers.{number, value, action, then};
 ghost use Rattle.model.specs.Tables.{modelOf, claimOf};
 ghost use Rattle.model.specs.declared.answers.Verdict.{Verdict};
+ghost use Rattle.certfile.specs.Tables.{tables};
 ghost use Rattle.vartrymoy.specs.Exported.{numbersOf, CheckedInto};
+ghost use Rattle.vartrymoy.specs.Filled.{numberOr, headerAfter, FileReadInto};
+use certfile::Lengths;
+use certfile::Outcome;
 use model::Answer;
 use model::Rank;
 use model::Refusal;
@@ -128,4 +132,84 @@ pub extern "C" fn vartrymoy_check(
         ),
         answer,
     )
+}
+
+// The length of the list that takes what a file says before its tables.
+pub struct HeaderList {}
+
+impl HeaderList {
+    pub const COUNT: usize = 6;
+}
+
+// The number of a refusal, or this one where a file is read.
+fn number_or(o: Outcome, read: u32) -> u32
+    ensures { λ r. ⌜ r ≡ numberOr read o ⌝ }
+{
+    match o {
+        Outcome::Read(_) => read,
+        Outcome::Refused { number, place: _ } => number,
+    }
+}
+
+// Writes what a file says before its tables into a list of six: a refusal leaves it alone.
+fn put_header(o: Outcome, header: &mut [u32])
+    requires { ⌜ length (now header) ≡ 6 ⌝ }
+    ensures { λ _. ⌜ now (header .exit) ≡ headerAfter o (now (header .entry)) ⌝ }
+{
+    let Outcome::Read(h) = o else {
+        return;
+    };
+    header[0] = h.kind;
+    header[1] = h.d;
+    header[2] = h.c;
+    header[3] = h.n;
+    header[4] = h.m;
+    header[5] = h.b;
+}
+
+// Reads a file into the lent tables, as certfile::read does, and answers 0 or the number of the refusal.
+#[no_mangle]
+pub extern "C" fn vartrymoy_read(
+    file: &[u8],
+    header: &mut [u32],
+    marks: &mut [u8],
+    action_starts: &mut [u32],
+    branch_starts: &mut [u32],
+    destinations: &mut [u32],
+    weights: &mut [u32],
+    costs: &mut [u32],
+    claims: &mut [u64],
+    ranks: &mut [u32],
+) -> u32
+    ensures { λ r. ⌜ FileReadInto (now (file .entry)) (now (header .entry))
+        (tables (now (marks .entry)) (now («action_starts» .entry)) (now («branch_starts» .entry)) (now (destinations .entry)) (now (weights .entry)) (now (costs .entry)) (now (claims .entry)) (now (ranks .entry)))
+        r (now (header .exit))
+        (tables (now (marks .exit)) (now («action_starts» .exit)) (now («branch_starts» .exit)) (now (destinations .exit)) (now (weights .exit)) (now (costs .exit)) (now (claims .exit)) (now (ranks .exit))) ⌝ }
+{
+    if header.len() != HeaderList::COUNT {
+        let room = Lengths {
+            marks: marks.len(),
+            action_starts: action_starts.len(),
+            branch_starts: branch_starts.len(),
+            destinations: destinations.len(),
+            weights: weights.len(),
+            costs: costs.len(),
+            claims: claims.len(),
+            ranks: ranks.len(),
+        };
+        return number_or(certfile::preview(file, room), Refusal::LENGTH);
+    }
+    let outcome = certfile::read(
+        file,
+        marks,
+        action_starts,
+        branch_starts,
+        destinations,
+        weights,
+        costs,
+        claims,
+        ranks,
+    );
+    put_header(outcome, header);
+    number_or(outcome, 0)
 }

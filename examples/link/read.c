@@ -1,0 +1,55 @@
+/* Reads a certificate file and judges its claim: read CERTIFICATE */
+#include <stdio.h>
+#include "vartrymoy.h"
+
+enum { STATES = 20000, ACTIONS = 100000, BRANCHES = 1000000, BYTES = 9000000 };
+
+static uint8_t file[BYTES], marks[STATES];
+static uint32_t action_starts[STATES + 1], branch_starts[ACTIONS + 1];
+static uint32_t destinations[BRANCHES], weights[BRANCHES];
+static uint32_t costs[STATES], ranks[STATES], choices[STATES];
+static uint64_t claims[STATES];
+
+static void print(const char *name, const uint32_t *numbers, size_t count)
+{
+    size_t i;
+    printf("%s", name);
+    for (i = 0; i < count; i++)
+        printf(" %lu", (unsigned long)numbers[i]);
+    printf("\n");
+}
+
+int main(int argc, char **argv)
+{
+    uint32_t header[VARTRYMOY_HEADER_LEN], answer[VARTRYMOY_ANSWER_LEN], number;
+    uint32_t kind, n, m, b;
+    size_t length, costs_len, ranks_len, choices_len;
+    FILE *in = argc == 2 ? fopen(argv[1], "rb") : NULL;
+    if (in == NULL) {
+        fprintf(stderr, "usage: read CERTIFICATE\n");
+        return 2;
+    }
+    length = fread(file, 1, BYTES, in);
+    fclose(in);
+
+    number = vartrymoy_read(file, length, header, VARTRYMOY_HEADER_LEN,
+        marks, STATES, action_starts, STATES + 1, branch_starts, ACTIONS + 1,
+        destinations, BRANCHES, weights, BRANCHES, costs, STATES,
+        claims, STATES, ranks, STATES);
+    print("read", &number, 1);
+    if (number != 0)
+        return 0;
+
+    kind = header[0], n = header[3], m = header[4], b = header[5];
+    costs_len = kind >= 5 ? n : 0;
+    ranks_len = kind == 2 || kind == 4 || kind >= 7 ? n : 0;
+    choices_len = kind == 3 || kind == 4 || kind == 6 || kind == 8 ? n : 0;
+    number = vartrymoy_check(kind, header[1], header[2], marks, n,
+        action_starts, (size_t)n + 1, branch_starts, (size_t)m + 1,
+        destinations, b, weights, b, costs, costs_len, claims, n,
+        ranks, ranks_len, choices, choices_len, answer, VARTRYMOY_ANSWER_LEN);
+    print("answer", answer, VARTRYMOY_ANSWER_LEN);
+    if (number == 0)
+        print("choices", choices, choices_len);
+    return 0;
+}

@@ -1,0 +1,51 @@
+"""Reads a certificate file and judges its claim: read.py LIBRARY CERTIFICATE"""
+import ctypes
+import sys
+
+STATES, ACTIONS, BRANCHES = 20000, 100000, 1000000
+U8, U32, U64 = ctypes.c_uint8, ctypes.c_uint32, ctypes.c_uint64
+
+
+def lent(tables, counts):
+    """Each table as its pointer and its length."""
+    return [x for table, count in zip(tables, counts) for x in (table, ctypes.c_size_t(count))]
+
+
+def read(library, file):
+    """The number that comes back, the header, and tables 1 to 8."""
+    room = [(U8, STATES), (U32, STATES + 1), (U32, ACTIONS + 1), (U32, BRANCHES),
+            (U32, BRANCHES), (U32, STATES), (U64, STATES), (U32, STATES)]
+    tables = [(entry * count)() for entry, count in room]
+    header = (U32 * 6)()
+    given = (U8 * len(file)).from_buffer_copy(file)
+    everything = [given, header] + tables
+    number = library.vartrymoy_read(*lent(everything, map(len, everything)))
+    return number, header, tables
+
+
+def check(library, header, tables):
+    """The answer in four numbers, and the choices, empty if there are none."""
+    kind, d, c, n, m, b = header
+    costs = n if kind >= 5 else 0
+    ranks = n if kind in (2, 4, 7, 8) else 0
+    choices = (U32 * (n if kind in (3, 4, 6, 8) else 0))()
+    answer = (U32 * 4)()
+    counts = [n, n + 1, m + 1, b, b, costs, n, ranks, len(choices), 4]
+    number = library.vartrymoy_check(U32(kind), U32(d), U32(c), *lent(tables + [choices, answer], counts))
+    return answer, choices if number == 0 else []
+
+
+def main():
+    library = ctypes.CDLL(sys.argv[1])
+    library.vartrymoy_read.restype = library.vartrymoy_check.restype = U32
+    with open(sys.argv[2], "rb") as opened:
+        number, header, tables = read(library, opened.read())
+    print("read", number)
+    if number == 0:
+        answer, choices = check(library, header, tables)
+        print("answer", *answer)
+        if answer[0] == 0:
+            print("choices", *choices)
+
+
+main()

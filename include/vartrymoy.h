@@ -1,0 +1,77 @@
+/* Vartrymoy: judges claims about finite Markov decision processes.
+ *
+ * Each table is a pointer and its number of entries. A pointer must not be
+ * null, also for a table with no entries, and the entries behind it must be
+ * there for the length given. What is written must not overlap anything else
+ * that is lent. Nothing is kept after a call returns, and nothing is
+ * allocated. */
+#ifndef VARTRYMOY_H
+#define VARTRYMOY_H
+
+#include <stddef.h>
+#include <stdint.h>
+
+#ifdef __cplusplus
+extern "C" {
+#endif
+
+/* "None", as a rank, as a choice and as an action. */
+#define VARTRYMOY_NONE 4294967295u
+
+/* Entries of `answer` and of `header`. */
+#define VARTRYMOY_ANSWER_LEN 4
+#define VARTRYMOY_HEADER_LEN 6
+
+/* Judges the claim that the tables make. Returns 0 for accepted, 21 to 24 for
+ * a violated condition, 1 to 14 for tables that are refused.
+ *
+ * Written:
+ * answer   the number returned; then R (0), the state (21 to 24) or the place
+ *          (1 to 14); then the action or none; then `kind` as given. With a
+ *          length that is not 4 the call returns a number of 1 to 14, 5 if the
+ *          tables themselves are not refused, and writes nothing at all.
+ * choices  only when a claim of kind 3, 4, 6 or 8 is accepted: an action for
+ *          each state, or none.
+ *
+ * costs has entries for kinds 5 to 8, ranks for kinds 2, 4, 7 and 8, choices
+ * for kinds 3, 4, 6 and 8; elsewhere their length is 0. */
+uint32_t vartrymoy_check(
+    uint32_t kind, uint32_t d, uint32_t c,
+    const uint8_t *marks, size_t marks_len,
+    const uint32_t *action_starts, size_t action_starts_len,
+    const uint32_t *branch_starts, size_t branch_starts_len,
+    const uint32_t *destinations, size_t destinations_len,
+    const uint32_t *weights, size_t weights_len,
+    const uint32_t *costs, size_t costs_len,
+    const uint64_t *claims, size_t claims_len,
+    const uint32_t *ranks, size_t ranks_len,
+    uint32_t *choices, size_t choices_len,
+    uint32_t *answer, size_t answer_len);
+
+/* Reads a certificate file. Returns 0, or the number of the refusal: 31, 32,
+ * 1, 33 or 34, and 5 for a `header` whose length is not 6. A refusal writes
+ * nothing.
+ *
+ * Written when 0 comes back:
+ * header   kind, d, c, n, m, b: the numbers of states, actions and branches.
+ * tables   the first entries of each: marks, claims n; action_starts n + 1;
+ *          branch_starts m + 1; destinations, weights b; costs, ranks n where
+ *          the kind has them. A table may be longer, and its other entries
+ *          stay. */
+uint32_t vartrymoy_read(
+    const uint8_t *file, size_t file_len,
+    uint32_t *header, size_t header_len,
+    uint8_t *marks, size_t marks_len,
+    uint32_t *action_starts, size_t action_starts_len,
+    uint32_t *branch_starts, size_t branch_starts_len,
+    uint32_t *destinations, size_t destinations_len,
+    uint32_t *weights, size_t weights_len,
+    uint32_t *costs, size_t costs_len,
+    uint64_t *claims, size_t claims_len,
+    uint32_t *ranks, size_t ranks_len);
+
+#ifdef __cplusplus
+}
+#endif
+
+#endif
