@@ -2,6 +2,7 @@
 
 use std::collections::BTreeMap;
 use std::env;
+use std::fs;
 use std::io::{self, BufReader, BufWriter, Read, Write};
 use std::process::ExitCode;
 
@@ -9,7 +10,8 @@ use independent::generate;
 use independent::program::{answer, Answer, MAX_INPUT};
 use independent::stream::{read_case, write_case};
 
-const USAGE: &str = "usage: independent check | generate SEED COUNT | answers | census";
+const USAGE: &str =
+    "usage: independent check | generate SEED COUNT | stream FILE.. | answers | census";
 const BAD_USAGE: u8 = 2;
 const FAILURE: u8 = 1;
 
@@ -34,6 +36,7 @@ fn main() -> ExitCode {
 enum Command {
     Check,
     Generate { seed: u64, count: u64 },
+    Stream { files: Vec<String> },
     Answers,
     Census,
 }
@@ -46,6 +49,9 @@ impl Command {
             ["generate", seed, count] => Some(Command::Generate {
                 seed: seed.parse().ok()?,
                 count: count.parse().ok()?,
+            }),
+            ["stream", ..] => Some(Command::Stream {
+                files: arguments[1..].to_vec(),
             }),
             ["answers"] => Some(Command::Answers),
             ["census"] => Some(Command::Census),
@@ -60,6 +66,11 @@ impl Command {
             Command::Generate { seed, count } => {
                 for index in 0..count {
                     write_case(&mut out, &generate::case(seed, index))?;
+                }
+            }
+            Command::Stream { files } => {
+                for file in files {
+                    write_case(&mut out, &fs::read(file)?)?;
                 }
             }
             Command::Answers => for_each_answer(|answer| write!(out, "{answer}"))?,

@@ -180,9 +180,9 @@ term-le f hi k = down
     (λ i h ih l u.
     rw (sum-step f i hi h)
     (⊎-elim
-        (λ (w : k ≤ i). let q : k ≡ i = omega arith in rw q (omega arith))
-        (λ (w : i < k). let b = ih (omega arith) u in omega arith)
-        (at-end i k)))
+    (λ (w : k ≤ i). let q : k ≡ i = omega arith in rw q (omega arith))
+    (λ (w : i < k). let b = ih (omega arith) u in omega arith)
+    (at-end i k)))
 
 -- what is listed has as many entries as the range, and f of the index at each
 pub listed-length : (f : ℕ → ℕ) (hi lo : ℕ) → length (listed f lo hi) ≡ hi - lo
@@ -226,9 +226,9 @@ le-greatest f hi k = down
     (λ i h ih l u.
     rw (greatest-step f i hi h)
     (⊎-elim
-        (λ (w : k ≤ i). let q : k ≡ i = omega arith in rw q (omega arith))
-        (λ (w : i < k). let b = ih (omega arith) u in omega arith)
-        (at-end i k)))
+    (λ (w : k ≤ i). let q : k ≡ i = omega arith in rw q (omega arith))
+    (λ (w : i < k). let b = ih (omega arith) u in omega arith)
+    (at-end i k)))
 
 -- it is one of them, or 0
 pub greatest-is : (f : ℕ → ℕ) (hi lo : ℕ) → (greatest f lo hi ≡ 0) ⊎ ((i : ℕ) × (lo ≤ i) × (i < hi) × (f i ≡ greatest f lo hi))
