@@ -9,7 +9,6 @@ ghost use Rattle.certfile.specs.File.{outcomeOf};
 ghost use Rattle.certfile.specs.Layout.{listed};
 ghost use Rattle.certfile.specs.Tables.{tables, lent, ReadInto};
 ghost use Rattle.certfile.specs.declared.Outcome.the-variants.{Read};
-pub use layout::Lengths;
 
 // What a file says before its tables.
 pub struct Header {
