@@ -18,7 +18,7 @@ extern "C" {
 }
 
 const MOST_BRANCHES: usize = 1_000_000;
-const RUNS: usize = 20;
+const RUNS: usize = 40;
 
 fn main() {
     // The call keeps the padding before the code.
