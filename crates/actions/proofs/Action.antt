@@ -110,10 +110,12 @@ module _ {k : Kind} {t : Model} {u : Claim} (w : Ready k t u) where
       unfolding suits
       suits-most e = rw (e, expects)
 
-      falls-least : isAtLeast (k .bound) ≡ true → falls t u s a ≡ ltb (leastOf (t .destinations) (u .ranks) (firstBranch t a) (firstBranch t (a + 1))) (rank u s)
+      falls-least : isAtLeast (k .bound) ≡ true → falls t u s a ≡ ltb (leastOf (t .destinations) (u .ranks) (firstBranch t a) (firstBranch t (a + 1)))
+          (rank u s)
       unfolding falls leastOf
       falls-least e =
-          ap (λ (p : ℕ → Bool). any p (firstBranch t a) (firstBranch t (a + 1))) (fun-ext (λ j. below-ranked (rank u (destination t j)) (rank u s) (rank-most e s l)))
+          ap (λ (p : ℕ → Bool). any p (firstBranch t a) (firstBranch t (a + 1)))
+          (fun-ext (λ j. below-ranked (rank u (destination t j)) (rank u s) (rank-most e s l)))
           ∙ sym (least-below (λ j. rank u (destination t j)) none (rank u s) (firstBranch t (a + 1)) (firstBranch t a) (rank-most e s l) (weighable .low))
 
       -- what the code compares: the sum, the least rank and what the state spends
@@ -129,7 +131,9 @@ module _ {k : Kind} {t : Model} {u : Claim} (w : Ready k t u) where
         module _ (low : ℕ) (h : low ≡ leastOf (t .destinations) (u .ranks) (firstBranch t a) (firstBranch t (a + 1))) (asked : Bool) (f : asked ≡ true) (e : isAtLeast (k .bound) ≡ true) where
           pub keeps-falling : low < rank u s → leb (t .d * claim u s) (sum + spent) ≡ keeps k t u s asked a
           unfolding keeps
-          keeps-falling g = rw (p, q, f, suits-least e, falls-least e, ← h, lt-ltb low (rank u s) g) (sym (and-true (leb (t .d * claim u s) (S + t .d * stateCost k (u .costs) s))))
+          keeps-falling g =
+              rw (p, q, f, suits-least e, falls-least e, ← h, lt-ltb low (rank u s) g)
+              (sym (and-true (leb (t .d * claim u s) (S + t .d * stateCost k (u .costs) s))))
 
           pub keeps-unfallen : rank u s ≤ low → false ≡ keeps k t u s asked a
           unfolding keeps

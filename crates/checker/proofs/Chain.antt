@@ -18,7 +18,8 @@ unfolding tried
 four v a b c d e f g h l =
     rw (h, g, f, e, l) (then-assoc (then (then v a) b) c d ∙ then-assoc (then v a) b (then c d) ∙ then-assoc v a (then b (then c d)))
 
-pub three : (a b c : Verdict) (xs ys : List Verdict) {w x y z r : Verdict} → w ≡ then pass a → x ≡ then w b → y ≡ then x c → z ≡ then y (tried xs pass) → r ≡ then z (tried ys pass)
+pub three : (a b c : Verdict) (xs ys : List Verdict) {w x y z r : Verdict} → w ≡ then pass a → x ≡ then w b → y ≡ then x c → z
+    ≡ then y (tried xs pass) → r ≡ then z (tried ys pass)
     → r ≡ tried (a ∷ b ∷ c ∷ (xs ++ ys)) pass
 unfolding tried then
 three a b c xs ys e f g h i =

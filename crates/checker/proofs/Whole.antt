@@ -100,7 +100,8 @@ module _ (k : Kind) (t : Model) (u : Claim) (choices : List ℕ) where
   unfolding verdictOf
   judged-on h = sym (tried-then (tests k t u choices) (conditions k t u) ∙ then-passed (tried (tests k t u choices) pass) (conditions k t u) h)
 
-  pub judged-kept : T (accepts (tried (tests k t u choices) pass)) → (v : Verdict) (after : List ℕ) → v ≡ conditions k t u → after ≡ chosenOf k t u choices (conditions k t u)
+  pub judged-kept : T (accepts (tried (tests k t u choices) pass)) → (v : Verdict) (after : List ℕ) → v ≡ conditions k t u → after
+      ≡ chosenOf k t u choices (conditions k t u)
       → (v ≡ verdictOf k t u choices) × (after ≡ chosenOf k t u choices (verdictOf k t u choices))
   judged-kept h v after p q = let e = judged-on h in (p ∙ e, q ∙ ap (chosenOf k t u choices) e)
 

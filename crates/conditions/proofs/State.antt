@@ -16,7 +16,8 @@ use Rattle.model.specs.Limits.{none}
 use Rattle.model.specs.Kinds.{isAtLeast, isSome}
 use Rattle.model.specs.Tables.{Model, Claim, target, firstAction, claim, ranked}
 use Rattle.model.specs.Answers.{pass, then, tried}
-use Rattle.model.specs.Conditions.{suits, falls, everyAction, someAction, lowestAction, ask, askActions, targetAsks, condition21, condition22, condition23, asksFall, condition24, judged}
+use Rattle.model.specs.Conditions.{suits, falls, everyAction, someAction, lowestAction, ask, askActions, targetAsks, condition21, condition22}
+use Rattle.model.specs.Conditions.{condition23, asksFall, condition24, judged}
 use Rattle.model.specs.Checked.{accepts, choice}
 use Rattle.model.proofs.Tried.{settled}
 use Rattle.actions.specs.Judging.{keeps, lowestOf}
@@ -54,7 +55,8 @@ module _ (k : Kind) (t : Model) (u : Claim) (s : ℕ) where
   -- what the lowest actions are, without the flags
   unsuited : lowestOf k t u s false false ≡ lowestAction t s (λ a. not (suits k t u s a))
   unfolding lowestOf keeps
-  unsuited = ap (lowestAction t s) (fun-ext (λ a. beq-false (suits k t u s a && (not false || falls t u s a)) ∙ ap not (unasked (suits k t u s a) (falls t u s a))))
+  unsuited =
+      ap (lowestAction t s) (fun-ext (λ a. beq-false (suits k t u s a && (not false || falls t u s a)) ∙ ap not (unasked (suits k t u s a) (falls t u s a))))
 
   suiting : lowestOf k t u s true false ≡ lowestAction t s (suits k t u s)
   unfolding lowestOf keeps
@@ -69,7 +71,8 @@ module _ (k : Kind) (t : Model) (u : Claim) (s : ℕ) where
   unfolding ask everyAction all any lowestAction
   every-pass p number x e = rw (e, le-ltb end end (le-refl end))
 
-  every-stop : (p : ℕ → Bool) (number a : ℕ) → lowestAction t s (λ a. not (p a)) ≡ a → a < end → ask (everyAction t s p) number s (lowestAction t s (λ a. not (p a))) ≡ Violated number s a
+  every-stop : (p : ℕ → Bool) (number a : ℕ) → lowestAction t s (λ a. not (p a)) ≡ a → a < end →
+      ask (everyAction t s p) number s (lowestAction t s (λ a. not (p a))) ≡ Violated number s a
   unfolding ask everyAction all any lowestAction
   every-stop p number a e h = rw (e, lt-ltb a end h)
 
@@ -148,7 +151,8 @@ module _ (k : Kind) (t : Model) (u : Claim) (s : ℕ) where
     unfolding then
     broken22 a e = first-is ∙ rw e
 
-    broken24 : (a : ℕ) → asksFall k t u s ≡ true → askActions k t 22 s (suits k t u s) (suits k t u s) ≡ pass → condition24 k t u s ≡ Violated 24 s a → judged k t u s ≡ Violated 24 s a
+    broken24 : (a : ℕ) → asksFall k t u s ≡ true → askActions k t 22 s (suits k t u s) (suits k t u s) ≡ pass → condition24 k t u s
+        ≡ Violated 24 s a → judged k t u s ≡ Violated 24 s a
     unfolding then
     broken24 a f p q = first-is ∙ rw (p, ranked23 f, q)
 
@@ -217,7 +221,8 @@ module _ (k : Kind) (t : Model) (u : Claim) (s : ℕ) where
       unfolding condition24
       every-unfallen true f a e n l g =
           broken24 a (sym f) (suit22 false g)
-          (rw (← f) (for-every 24 (falls t u s) (λ a. suits k t u s a && falls t u s a) ∙ every-stop (falls t u s) 24 a (unfallen a e (omega arith) g) (omega arith)))
+          (rw (← f) (for-every 24 (falls t u s) (λ a. suits k t u s a && falls t u s a) ∙ every-stop (falls t u s) 24 a (unfallen a e (omega arith) g)
+          (omega arith)))
       every-unfallen false f a e n l g = absurd (n (e ∙ g))
 
     -- for some strategy
@@ -234,7 +239,8 @@ module _ (k : Kind) (t : Model) (u : Claim) (s : ℕ) where
           let v = lowest (λ a. Bool·beq (keeps k t u s false a) true) end (firstAction t s) rises in
           let x = first (λ a. Bool·beq (keeps k t u s asked a) true) (firstAction t s) end in
           let kept : keeps k t u s asked x ≡ true = sym (beq-true (keeps k t u s asked x)) ∙ w .hit h in
-          let suit : keeps k t u s false x ≡ true = unasked (suits k t u s x) (falls t u s x) ∙ is-true (suits k t u s x) (and-left (suits k t u s x) (not asked || falls t u s x) (holds kept)) in
+          let suit : keeps k t u s false x ≡ true = unasked (suits k t u s x) (falls t u s x) ∙ is-true (suits k t u s x)
+          (and-left (suits k t u s x) (not asked || falls t u s x) (holds kept)) in
           ⊎-elim
           (λ (q : end ≤ first (λ a. Bool·beq (keeps k t u s false a) true) (firstAction t s) end).
           absurd (subst T (sym suit ∙ sym (beq-true (keeps k t u s false x)) ∙ v .passed x (w .low) (omega arith)) tt))
@@ -256,7 +262,8 @@ module _ (k : Kind) (t : Model) (u : Claim) (s : ℕ) where
       some-kept asked f a e l = let h = rw e at l in met (suit-some (one-suits asked h)) (fall-some asked f h)
 
       picks : picked k t u s
-          ≡ cond (isSome (k .who)) (cond (target t s) none (cond (asksFall k t u s) (lowestAction t s (λ a. suits k t u s a && falls t u s a)) (lowestAction t s (suits k t u s)))) none
+          ≡ cond (isSome (k .who)) (cond (target t s) none
+          (cond (asksFall k t u s) (lowestAction t s (λ a. suits k t u s a && falls t u s a)) (lowestAction t s (suits k t u s)))) none
       unfolding picked choice
       picks = refl
 
@@ -267,7 +274,8 @@ module _ (k : Kind) (t : Model) (u : Claim) (s : ℕ) where
       pub some-unsuited : (b : ℕ) → b ≡ lowestOf k t u s true false → end ≤ b → judged k t u s ≡ Violated 22 s none
       some-unsuited b e l = let h = rw e at l in broken22 none (for-some 22 (suits k t u s) (suits k t u s) ∙ some-stop (suits k t u s) 22 (rw (← suiting) h))
 
-      pub some-unfallen : (asked : Bool) → asked ≡ asksFall k t u s → (a : ℕ) → a ≡ lowestOf k t u s true asked → end ≤ a → (b : ℕ) → b ≡ lowestOf k t u s true false → b < end
+      pub some-unfallen : (asked : Bool) → asked ≡ asksFall k t u s → (a : ℕ) → a ≡ lowestOf k t u s true asked → end ≤ a → (b : ℕ) → b
+          ≡ lowestOf k t u s true false → b < end
           → judged k t u s ≡ Violated 24 s none
       unfolding condition24
       some-unfallen true f a e l b d m =

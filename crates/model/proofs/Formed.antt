@@ -17,9 +17,12 @@ use Rattle.model.specs.Kinds.{isCost}
 use Rattle.model.specs.Tables.{Model, Claim, states, actions, branches, firstBranch, destination, weight, scale, cost, claim, rank}
 use Rattle.model.specs.Answers.{pass, require}
 use Rattle.model.specs.Checked.{accepts}
-use Rattle.model.specs.Refusals.{between, entries, limitOf, weightScaleTest, claimScaleTest, statesTest, lengthTest, modelLengths, claimLengths, startRight, startsTest, marksTest, branchTest, totalTest, actionTest, walkTest, rowTests, costsTest, claimsTest, ranksTest, sizeTests, rangesOf, rangeTests, tests}
+use Rattle.model.specs.Refusals.{between, entries, limitOf, weightScaleTest, claimScaleTest, statesTest, lengthTest, modelLengths, claimLengths}
+use Rattle.model.specs.Refusals.{startRight, startsTest, marksTest, branchTest, totalTest, actionTest, walkTest, rowTests, costsTest}
+use Rattle.model.specs.Refusals.{claimsTest, ranksTest, sizeTests, rangesOf, rangeTests, tests}
 use Rattle.model.specs.WellFormed.{Sized, Starts, Row, Counted, InRange, WellFormed}
-use Rattle.model.proofs.Tried.{AllPass, all-append, append-all, tried-passed, tried-all, require-right, passes-require, each-all, each-last, all-each, throughout-all, all-throughout}
+use Rattle.model.proofs.Tried.{AllPass, all-append, append-all, tried-passed, tried-all, require-right, passes-require, each-all, each-last}
+use Rattle.model.proofs.Tried.{all-each, throughout-all, all-throughout}
 
 eq→eqb : (a b : ℕ) → a ≡ b → T (eqb a b)
 eq→eqb a b e = holds (eq-eqb a b e)
@@ -48,7 +51,8 @@ module _ (k : Kind) (t : Model) (u : Claim) (choices : List ℕ) where
   unfolding sizeTests modelLengths claimLengths weightScaleTest claimScaleTest statesTest lengthTest
   sized h =
       let d = require-right (between 1 mostWeightScale (t .d)) 2 0 (h .0) in
-      let c = scale-of (isCost (k .measure)) (u .c) (require-right (cond (isCost (k .measure)) (eqb (u .c) 1) (between 1 mostClaimScale (u .c))) 3 0 (h .1 .0)) in
+      let c = scale-of (isCost (k .measure)) (u .c)
+      (require-right (cond (isCost (k .measure)) (eqb (u .c) 1) (between 1 mostClaimScale (u .c))) 3 0 (h .1 .0)) in
       let n = require-right (between 1 mostStates (states t)) 4 0 (h .1 .1 .0) in
       let l = h .1 .1 .1 in
       let table3 = require-right (between 2 (mostActions + 1) (length (t .branchStarts))) 5 3 (l .1 .0) in
@@ -65,10 +69,13 @@ module _ (k : Kind) (t : Model) (u : Claim) (choices : List ℕ) where
         table3-most = from-above 2 (mostActions + 1) (length (t .branchStarts)) table3;
         table4 = leb→le (branches t) mostBranches (require-right (leb (branches t) mostBranches) 5 4 (l .1 .1 .0));
         table5 = eqb→eq (length (t .weights)) (branches t) (require-right (eqb (length (t .weights)) (branches t)) 5 5 (l .1 .1 .1 .0));
-        table6 = eqb→eq (length (u .costs)) (entries (k .costs) (states t)) (require-right (eqb (length (u .costs)) (entries (k .costs) (states t))) 5 6 (l .1 .1 .1 .1 .0));
+        table6 = eqb→eq (length (u .costs)) (entries (k .costs) (states t))
+            (require-right (eqb (length (u .costs)) (entries (k .costs) (states t))) 5 6 (l .1 .1 .1 .1 .0));
         table7 = eqb→eq (length (u .claims)) (states t) (require-right (eqb (length (u .claims)) (states t)) 5 7 (l .1 .1 .1 .1 .1 .0));
-        table8 = eqb→eq (length (u .ranks)) (entries (k .ranks) (states t)) (require-right (eqb (length (u .ranks)) (entries (k .ranks) (states t))) 5 8 (l .1 .1 .1 .1 .1 .1 .0));
-        table9 = eqb→eq (length choices) (entries (k .choices) (states t)) (require-right (eqb (length choices) (entries (k .choices) (states t))) 5 9 (l .1 .1 .1 .1 .1 .1 .1 .0));
+        table8 = eqb→eq (length (u .ranks)) (entries (k .ranks) (states t))
+            (require-right (eqb (length (u .ranks)) (entries (k .ranks) (states t))) 5 8 (l .1 .1 .1 .1 .1 .1 .0));
+        table9 = eqb→eq (length choices) (entries (k .choices) (states t))
+            (require-right (eqb (length choices) (entries (k .choices) (states t))) 5 9 (l .1 .1 .1 .1 .1 .1 .1 .0));
       }
 
   pub of-sized : Sized k t u choices → AllPass (sizeTests k t u choices)
@@ -76,25 +83,30 @@ module _ (k : Kind) (t : Model) (u : Claim) (choices : List ℕ) where
   of-sized w = (
     passes-require (between 1 mostWeightScale (t .d)) 2 0 (in-between 1 mostWeightScale (t .d) (w .d-least) (w .d-most)),
     (
-      passes-require (cond (isCost (k .measure)) (eqb (u .c) 1) (between 1 mostClaimScale (u .c))) 3 0 (of-scale (isCost (k .measure)) (u .c) (w .c-least) (w .c-most) (w .c-cost)),
+      passes-require (cond (isCost (k .measure)) (eqb (u .c) 1) (between 1 mostClaimScale (u .c))) 3 0
+          (of-scale (isCost (k .measure)) (u .c) (w .c-least) (w .c-most) (w .c-cost)),
       (
         passes-require (between 1 mostStates (states t)) 4 0 (in-between 1 mostStates (states t) (w .n-least) (w .n-most)),
         (
           passes-require (eqb (length (t .actionStarts)) (states t + 1)) 5 2 (eq→eqb (length (t .actionStarts)) (states t + 1) (w .table2)),
           (
-            passes-require (between 2 (mostActions + 1) (length (t .branchStarts))) 5 3 (in-between 2 (mostActions + 1) (length (t .branchStarts)) (w .table3-least) (w .table3-most)),
+            passes-require (between 2 (mostActions + 1) (length (t .branchStarts))) 5 3
+                (in-between 2 (mostActions + 1) (length (t .branchStarts)) (w .table3-least) (w .table3-most)),
             (
               passes-require (leb (branches t) mostBranches) 5 4 (le→leb (branches t) mostBranches (w .table4)),
               (
                 passes-require (eqb (length (t .weights)) (branches t)) 5 5 (eq→eqb (length (t .weights)) (branches t) (w .table5)),
                 (
-                  passes-require (eqb (length (u .costs)) (entries (k .costs) (states t))) 5 6 (eq→eqb (length (u .costs)) (entries (k .costs) (states t)) (w .table6)),
+                  passes-require (eqb (length (u .costs)) (entries (k .costs) (states t))) 5 6
+                      (eq→eqb (length (u .costs)) (entries (k .costs) (states t)) (w .table6)),
                   (
                     passes-require (eqb (length (u .claims)) (states t)) 5 7 (eq→eqb (length (u .claims)) (states t) (w .table7)),
                     (
-                      passes-require (eqb (length (u .ranks)) (entries (k .ranks) (states t))) 5 8 (eq→eqb (length (u .ranks)) (entries (k .ranks) (states t)) (w .table8)),
+                      passes-require (eqb (length (u .ranks)) (entries (k .ranks) (states t))) 5 8
+                          (eq→eqb (length (u .ranks)) (entries (k .ranks) (states t)) (w .table8)),
                       (
-                        passes-require (eqb (length choices) (entries (k .choices) (states t))) 5 9 (eq→eqb (length choices) (entries (k .choices) (states t)) (w .table9)),
+                        passes-require (eqb (length choices) (entries (k .choices) (states t))) 5 9
+                            (eq→eqb (length choices) (entries (k .choices) (states t)) (w .table9)),
                         tt,
                       ),
                     ),
@@ -136,18 +148,21 @@ module _ (starts : List ℕ) (end : ℕ) where
       above i l q =
           let z : eqb (i + 1) 0 ≡ false = ne-eqb (i + 1) 0 (λ e. omega arith) in
           let s : i + 1 - 1 ≡ i = omega arith in
-          let q′ = and-left (cond (eqb (i + 1) 0) (eqb (getD starts (i + 1) 0) 0) (ltb (getD starts (i + 1 - 1) 0) (getD starts (i + 1) 0))) (not (eqb (i + 1 + 1) (length starts)) || eqb (getD starts (i + 1) 0) end) q in
+          let q′ = and-left (cond (eqb (i + 1) 0) (eqb (getD starts (i + 1) 0) 0) (ltb (getD starts (i + 1 - 1) 0) (getD starts (i + 1) 0)))
+          (not (eqb (i + 1 + 1) (length starts)) || eqb (getD starts (i + 1) 0) end) q in
           ltb→lt (getD starts i 0) (getD starts (i + 1) 0) (rw (z, s) at q′)
 
       ended : (i : ℕ) → i + 1 ≡ length starts → T (startRight starts end i) → getD starts i 0 ≡ end
       ended i e q =
-          let r = and-right (cond (eqb i 0) (eqb (getD starts i 0) 0) (ltb (getD starts (i - 1) 0) (getD starts i 0))) (not (eqb (i + 1) (length starts)) || eqb (getD starts i 0) end) q in
+          let r = and-right (cond (eqb i 0) (eqb (getD starts i 0) 0) (ltb (getD starts (i - 1) 0) (getD starts i 0)))
+          (not (eqb (i + 1) (length starts)) || eqb (getD starts i 0) end) q in
           eqb→eq (getD starts i 0) end (either (not (eqb (i + 1) (length starts))) (eqb (getD starts i 0) end) r (rw (eq-eqb (i + 1) (length starts) e)))
 
   pub right-starts : Starts starts end → (i : ℕ) → i < length starts → T (startRight starts end i)
   unfolding startRight
   right-starts w i l =
-      both (cond (eqb i 0) (eqb (getD starts i 0) 0) (ltb (getD starts (i - 1) 0) (getD starts i 0))) (not (eqb (i + 1) (length starts)) || eqb (getD starts i 0) end)
+      both (cond (eqb i 0) (eqb (getD starts i 0) 0) (ltb (getD starts (i - 1) 0) (getD starts i 0)))
+      (not (eqb (i + 1) (length starts)) || eqb (getD starts i 0) end)
       (rising i l) (by (eqb (i + 1) (length starts)) refl)
     where
       rising : (i : ℕ) → i < length starts → T (cond (eqb i 0) (eqb (getD starts i 0) 0) (ltb (getD starts (i - 1) 0) (getD starts i 0)))
@@ -158,7 +173,9 @@ module _ (starts : List ℕ) (end : ℕ) where
           rw (z, s, ← add-one i) (lt→ltb (getD starts i 0) (getD starts (i + 1) 0) (w .rises i (omega arith)))
 
       by : (b : Bool) → eqb (i + 1) (length starts) ≡ b → T (not (eqb (i + 1) (length starts)) || eqb (getD starts i 0) end)
-      by true e = or-right (not (eqb (i + 1) (length starts))) (eqb (getD starts i 0) end) (eq→eqb (getD starts i 0) end (w .ends i (eqb→eq (i + 1) (length starts) (holds e))))
+      by true e =
+          or-right (not (eqb (i + 1) (length starts))) (eqb (getD starts i 0) end)
+          (eq→eqb (getD starts i 0) end (w .ends i (eqb→eq (i + 1) (length starts) (holds e))))
       by false e = rw e tt
 
 -- rows of one action
@@ -176,8 +193,10 @@ module _ (t : Model) (a : ℕ) where
   unfolding branchTest
   right-branch j p q =
       rw
-      (tried-passed (require (ltb (destination t j) (states t)) 9 j ∷ require (between 1 (scale t a) (weight t j)) 10 j ∷ []) pass
-      (passes-require (ltb (destination t j) (states t)) 9 j (lt→ltb (destination t j) (states t) p), (passes-require (between 1 (scale t a) (weight t j)) 10 j q, tt)))
+      (tried-passed (require (ltb (destination t j) (states t)) 9 j ∷ require (between 1 (scale t a) (weight t j)) 10 j ∷ []) pass (
+        passes-require (ltb (destination t j) (states t)) 9 j (lt→ltb (destination t j) (states t) p),
+        (passes-require (between 1 (scale t a) (weight t j)) 10 j q, tt),
+      ))
       tt
 
   pub row-right : T (accepts (actionTest t a)) → Row t a
@@ -211,8 +230,10 @@ module _ (t : Model) where
   unfolding rowTests startsTest marksTest walkTest
   counted p q h =
       record {
-        action-starts = starts-right (t .actionStarts) (actions t) p (throughout-all (startRight (t .actionStarts) (actions t)) (length (t .actionStarts)) 6 (h .0));
-        branch-starts = starts-right (t .branchStarts) (branches t) q (throughout-all (startRight (t .branchStarts) (branches t)) (length (t .branchStarts)) 7 (h .1 .0));
+        action-starts = starts-right (t .actionStarts)
+            (actions t) p (throughout-all (startRight (t .actionStarts) (actions t)) (length (t .actionStarts)) 6 (h .0));
+        branch-starts = starts-right (t .branchStarts)
+            (branches t) q (throughout-all (startRight (t .branchStarts) (branches t)) (length (t .branchStarts)) 7 (h .1 .0));
         marks = λ s l. leb→le (getD (t .marks) s 0) 1 (throughout-all (λ s. leb (getD (t .marks) s 0) 1) (states t) 8 (h .1 .1 .0) s l);
         rows = λ a l. row-right t a (each-all (actionTest t) (actions t) pass 0 (h .1 .1 .1 .0) a zero-le l);
       }
@@ -220,9 +241,11 @@ module _ (t : Model) where
   pub of-counted : Counted t → AllPass (rowTests t)
   unfolding rowTests startsTest marksTest walkTest
   of-counted w = (
-    rw (all-throughout (startRight (t .actionStarts) (actions t)) (length (t .actionStarts)) 6 (right-starts (t .actionStarts) (actions t) (w .action-starts))) tt,
+    rw (all-throughout (startRight (t .actionStarts) (actions t))
+        (length (t .actionStarts)) 6 (right-starts (t .actionStarts) (actions t) (w .action-starts))) tt,
     (
-      rw (all-throughout (startRight (t .branchStarts) (branches t)) (length (t .branchStarts)) 7 (right-starts (t .branchStarts) (branches t) (w .branch-starts))) tt,
+      rw (all-throughout (startRight (t .branchStarts) (branches t))
+          (length (t .branchStarts)) 7 (right-starts (t .branchStarts) (branches t) (w .branch-starts))) tt,
       (
         rw (all-throughout (λ s. leb (getD (t .marks) s 0) 1) (states t) 8 (λ s l. le→leb (getD (t .marks) s 0) 1 (w .marks s l))) tt,
         (
@@ -251,7 +274,8 @@ module _ (k : Kind) (t : Model) (u : Claim) where
       record {
         costs = λ s l. leb→le (cost u s) mostCost (throughout-all (λ s. leb (cost u s) mostCost) (length (u .costs)) 12 (h .0) s l);
         claims = λ s l. leb→le (claim u s) (limitOf k (u .c)) (throughout-all (λ s. leb (claim u s) (limitOf k (u .c))) (length (u .claims)) 13 (h .1 .0) s l);
-        ranks = λ s l. rank-cases (rank u s) (states t) (throughout-all (λ s. ltb (rank u s) (states t) || eqb (rank u s) none) (length (u .ranks)) 14 (h .1 .1 .0) s l);
+        ranks = λ s l. rank-cases (rank u s) (states t)
+            (throughout-all (λ s. ltb (rank u s) (states t) || eqb (rank u s) none) (length (u .ranks)) 14 (h .1 .1 .0) s l);
       }
 
   pub of-in-range : InRange k t u → AllPass (rangeTests k t u)
@@ -261,7 +285,8 @@ module _ (k : Kind) (t : Model) (u : Claim) where
     (
       rw (all-throughout (λ s. leb (claim u s) (limitOf k (u .c))) (length (u .claims)) 13 (λ s l. le→leb (claim u s) (limitOf k (u .c)) (w .claims s l))) tt,
       (
-        rw (all-throughout (λ s. ltb (rank u s) (states t) || eqb (rank u s) none) (length (u .ranks)) 14 (λ s l. cases-rank (rank u s) (states t) (w .ranks s l))) tt,
+        rw (all-throughout (λ s. ltb (rank u s) (states t) || eqb (rank u s) none)
+            (length (u .ranks)) 14 (λ s l. cases-rank (rank u s) (states t) (w .ranks s l))) tt,
         tt,
       ),
     ),

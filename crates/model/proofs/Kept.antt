@@ -21,7 +21,8 @@ use Rattle.model.specs.Kinds.{isCost, isAtLeast, isSome}
 use Rattle.model.specs.Tables.{Model, Claim, target, firstAction, firstBranch, destination, scale, claim, rank, ranked}
 use Rattle.model.specs.Answers.{pass}
 use Rattle.model.specs.Checked.{accepts}
-use Rattle.model.specs.Conditions.{expected, suits, falls, everyAction, someAction, lowestAction, ask, askActions, targetAsks, condition21, condition22, condition23, asksFall, condition24, judged}
+use Rattle.model.specs.Conditions.{expected, suits, falls, everyAction, someAction, lowestAction, ask, askActions, targetAsks, condition21}
+use Rattle.model.specs.Conditions.{condition22, condition23, asksFall, condition24, judged}
 use Rattle.model.specs.Meets.{SuitsBy, Suits, Falls, ForActions, Meets}
 use Rattle.model.proofs.Tried.{tried-passed, tried-all}
 

@@ -20,7 +20,8 @@ use Rattle.model.specs.Kinds.{isAtLeast}
 use Rattle.model.specs.Tables.{Model, Claim, target, claim, ranked}
 use Rattle.model.specs.Answers.{pass, isCondition}
 use Rattle.model.specs.Checked.{accepts}
-use Rattle.model.specs.Conditions.{suits, falls, everyAction, someAction, lowestAction, ask, askActions, targetAsks, condition21, condition22, condition23, asksFall, condition24, judged}
+use Rattle.model.specs.Conditions.{suits, falls, everyAction, someAction, lowestAction, ask, askActions, targetAsks, condition21, condition22}
+use Rattle.model.specs.Conditions.{condition23, asksFall, condition24, judged}
 use Rattle.model.specs.Meets.{Suits, Falls}
 use Rattle.model.proofs.Found.{First, tried-first, first-tried}
 use Rattle.model.proofs.Numbers.{Only, only-number, only21, only22, only23, only24}

@@ -16,8 +16,11 @@ use Rattle.model.specs.Limits.{mostStates, mostWeightScale, mostClaimSca
 use Rattle.model.specs.Kinds.{isCost, isAtLeast, isSome, kindOf, isKind}
 use Rattle.model.specs.Tables.{Model, Claim, states, actions, branches, target, firstBranch, destination, weight, scale, cost, claim, rank, ranked}
 use Rattle.model.specs.Answers.{number, value, action, isCondition, proper, pass, require, throughout}
-use Rattle.model.specs.Refusals.{between, limitOf, rankRight, startRight, kindTest, weightScaleTest, claimScaleTest, statesTest, lengthTest, lengthsOf, modelLengths, claimLengths, startsTest, marksTest, branchTest, totalTest, actionTest, walkTest, rowTests, costsTest, claimsTest, ranksTest, sizeTests, rangesOf, rangeTests, tests}
-use Rattle.model.specs.Conditions.{suits, falls, everyAction, someAction, lowestAction, ask, askActions, targetAsks, condition21, condition22, condition23, asksFall, condition24, judged}
+use Rattle.model.specs.Refusals.{between, limitOf, rankRight, startRight, kindTest, weightScaleTest, claimScaleTest, statesTest, lengthTest}
+use Rattle.model.specs.Refusals.{lengthsOf, modelLengths, claimLengths, startsTest, marksTest, branchTest, totalTest, actionTest, walkTest}
+use Rattle.model.specs.Refusals.{rowTests, costsTest, claimsTest, ranksTest, sizeTests, rangesOf, rangeTests, tests}
+use Rattle.model.specs.Conditions.{suits, falls, everyAction, someAction, lowestAction, ask, askActions, targetAsks, condition21, condition22}
+use Rattle.model.specs.Conditions.{condition23, asksFall, condition24, judged}
 use Rattle.model.specs.Checked.{greatestRank, conditions, verdictOf, answerOf}
 use Rattle.model.proofs.Tried.{EachOf, each-of-append, each-of-map}
 use Rattle.model.proofs.Found.{then-keeps, tried-keeps, each-keeps}

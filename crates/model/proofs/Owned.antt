@@ -40,7 +40,8 @@ module _ (long : ℕ) (starts : List ℕ) (a : ℕ) where
       S : Bool → Bool → Bool → Stretch
       S p q r = cond (p && (q && r)) (record { from = getD starts a 0; to = getD starts (a + 1) 0 }) nothing
 
-      by : (p q : Bool) → ltb (getD starts a 0) (getD starts (a + 1) 0) ≡ q → (r : Bool) → leb (getD starts (a + 1) 0) long ≡ r → (S p q r .from ≤ S p q r .to) × (S p q r .to ≤ long)
+      by : (p q : Bool) → ltb (getD starts a 0) (getD starts (a + 1) 0) ≡ q → (r : Bool) → leb (getD starts (a + 1) 0) long ≡ r →
+          (S p q r .from ≤ S p q r .to) × (S p q r .to ≤ long)
       by true true e true f = (omega (arith, ltb-true (getD starts a 0) (getD starts (a + 1) 0) e), omega (arith, leb-true (getD starts (a + 1) 0) long f))
       by true true e false f = (le-refl 0, zero-le)
       by true false e r f = (le-refl 0, zero-le)

@@ -21,7 +21,8 @@ use Rattle.model.specs.Conditions.{judged}
 use Rattle.model.specs.Checked.{accepts, rankOrZero, greatestRank, conditions, verdictOf, answerOf, choice, choicesOf}
 use Rattle.model.specs.WellFormed.{WellFormed}
 use Rattle.model.specs.Meets.{Meets}
-use Rattle.model.proofs.Tried.{AllPass, then-passed, then-first, then-second, tried-passed, tried-all, tried-last, require-right, passes-require, each-all, all-each}
+use Rattle.model.proofs.Tried.{AllPass, then-passed, then-first, then-second, tried-passed, tried-all, tried-last, require-right}
+use Rattle.model.proofs.Tried.{passes-require, each-all, all-each}
 use Rattle.model.proofs.Found.{First, tried-first, first-tried, FirstAt, each-first, first-each, each-of-at}
 use Rattle.model.proofs.Columns.{columns}
 use Rattle.model.proofs.Numbers.{refuses, violates, kind-refuses, tests-refuse, judged-violates, conditions-violate}

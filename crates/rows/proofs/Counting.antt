@@ -79,11 +79,13 @@ module _ {t : Model} {a total j : ℕ} (w : Counting t a total j) where
   pub stop-eleven : firstBranch t (a + 1) ≤ j → (total ≡ scale t a → ⊥) → Refused 11 a ≡ actionTest t a
   unfolding totalTest
   stop-eleven h q =
-      sym (wrong-require (eqb (sum (weight t) (firstBranch t a) (firstBranch t (a + 1))) (scale t a)) 11 a (ne-eqb (sum (weight t) (firstBranch t a) (firstBranch t (a + 1))) (scale t a) (λ e. q (sum-ends (w .summing) h ∙ e))))
+      sym (wrong-require (eqb (sum (weight t) (firstBranch t a) (firstBranch t (a + 1))) (scale t a)) 11 a
+      (ne-eqb (sum (weight t) (firstBranch t a) (firstBranch t (a + 1))) (scale t a) (λ e. q (sum-ends (w .summing) h ∙ e))))
       ∙ try-end (w .trying) h
 
   pub count-end : firstBranch t (a + 1) ≤ j → total ≡ scale t a → pass ≡ actionTest t a
   unfolding totalTest
   count-end h q =
-      sym (right-require (eqb (sum (weight t) (firstBranch t a) (firstBranch t (a + 1))) (scale t a)) 11 a (holds (eq-eqb (sum (weight t) (firstBranch t a) (firstBranch t (a + 1))) (scale t a) (sym (sum-ends (w .summing) h) ∙ q))))
+      sym (right-require (eqb (sum (weight t) (firstBranch t a) (firstBranch t (a + 1))) (scale t a)) 11 a
+      (holds (eq-eqb (sum (weight t) (firstBranch t a) (firstBranch t (a + 1))) (scale t a) (sym (sum-ends (w .summing) h) ∙ q))))
       ∙ try-end (w .trying) h

@@ -205,7 +205,8 @@ listed-at f d hi = down
     (λ i h k u. absurd (omega arith))
     (λ i h ih k u. rw (listed-step f i hi h) (by i ih k u))
   where
-    by : (i : ℕ) → ((k : ℕ) → i + 1 + k < hi → getD (listed f (i + 1) hi) k d ≡ f (i + 1 + k)) → (k : ℕ) → i + k < hi → getD (f i ∷ listed f (i + 1) hi) k d ≡ f (i + k)
+    by : (i : ℕ) → ((k : ℕ) → i + 1 + k < hi → getD (listed f (i + 1) hi) k d ≡ f (i + 1 + k)) → (k : ℕ) → i + k < hi →
+        getD (f i ∷ listed f (i + 1) hi) k d ≡ f (i + k)
     by i ih zero u = ap f (omega arith)
     by i ih (suc k) u = ih k (omega arith) ∙ ap f (omega arith)
 
@@ -268,7 +269,8 @@ module _ (f : ℕ → ℕ) (z : ℕ) where
       (λ i h ih l. by i h (ih (omega arith)) (at-end (f i) r))
       lo
     where
-      by : (i : ℕ) → i < hi → ltb (least f z (i + 1) hi) r ≡ any (λ i. ltb (f i) r) (i + 1) hi → (r ≤ f i) ⊎ (f i < r) → ltb (least f z i hi) r ≡ any (λ i. ltb (f i) r) i hi
+      by : (i : ℕ) → i < hi → ltb (least f z (i + 1) hi) r ≡ any (λ i. ltb (f i) r) (i + 1) hi → (r ≤ f i) ⊎ (f i < r) → ltb (least f z i hi) r
+          ≡ any (λ i. ltb (f i) r) i hi
       by i h ih (inr p) =
           rw (least-step i hi h, any-hit (λ i. ltb (f i) r) i hi h (lt-ltb (f i) r p)) (lt-ltb (min (f i) (least f z (i + 1) hi)) r (omega arith))
       by i h ih (inl p) =

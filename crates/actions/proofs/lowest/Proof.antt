@@ -31,21 +31,31 @@ cast-a c = omega (arith, c .shared-slice-known10 .given (c .before .before .befo
 loop-holds : tie.Need-loop-holds Inv-loop μ-loop
 unfolding lowestOf lowestAction
 loop-holds c =
-    let x = c .before .before .before .before .before .before .before .before .before .before .args in
+    let b = c .before .before .before .before .before .before .before .before .before .before in
+    let x = b .args in
     let t = modelOf (x .d) (x .marks .now) (x .action-starts .now) (x .branch-starts .now) (x .destinations .now) (x .weights .now) in
     let u = claimOf (x .c) (x .costs .now) (x .claims .now) (x .ranks .now) in
     seek-start (λ a. Bool·beq (keeps (x .kind) t u (x .s) (x .asked) a) (x .wanted)) _ _
-    (le-of-lt (c .before .before .before .before .before .before .before .before .before .before .pre .0 .counted .action-starts .rises (x .s) (omega (arith, c .before .before .before .before .before .before .before .before .before .before .pre .0 .table2, c .before .before .before .before .before .before .before .before .before .before .pre .1 .0))))
+    (le-of-lt (b .pre .0 .counted .action-starts .rises (x .s) (omega (arith, b .pre .0 .table2, b .pre .1 .0))))
 
 judge-action-requires : tie.Need-judge-action-requires Inv-loop μ-loop
 judge-action-requires c κs =
-    let p = c .before .before .before .before .before .before .before .before .before .before .before .before .pre in
-    let below = start-below _ _ (p .0 .counted .action-starts) (c .before .before .before .before .before .before .before .before .before .before .before .before .args .s + 1) (omega (arith, p .0 .table2, p .1 .0)) in
+    let b = c .before .before .before .before .before .before .before .before .before .before .before .before in
+    let p = b .pre in
+    let below = start-below _ _ (p .0 .counted .action-starts) (b .args .s + 1) (omega (arith, p .0 .table2, p .1 .0)) in
     (p .0, (p .1 .0, (p .1 .1, omega (arith, below, p .0 .table3-least))))
 
 -- the test at a, as the two calls answer it
-tested : (c : tie.After-agree Inv-loop μ-loop) → c .agree .result ≡ Bool·beq (keeps (c .before .before .before .before .before .before .before .before .before .before .before .before .before .before .args .kind) (modelOf (c .before .before .before .before .before .before .before .before .before .before .before .before .before .before .args .d) (c .before .before .before .before .before .before .before .before .before .before .before .before .before .before .args .marks .now) (c .before .before .before .before .before .before .before .before .before .before .before .before .before .before .args .action-starts .now) (c .before .before .before .before .before .before .before .before .before .before .before .before .before .before .args .branch-starts .now) (c .before .before .before .before .before .before .before .before .before .before .before .before .before .before .args .destinations .now) (c .before .before .before .before .before .before .before .before .before .before .before .before .before .before .args .weights .now)) (claimOf (c .before .before .before .before .before .before .before .before .before .before .before .before .before .before .args .c) (c .before .before .before .before .before .before .before .before .before .before .before .before .before .before .args .costs .now) (c .before .before .before .before .before .before .before .before .before .before .before .before .before .before .args .claims .now) (c .before .before .before .before .before .before .before .before .before .before .before .before .before .before .args .ranks .now)) (c .before .before .before .before .before .before .before .before .before .before .before .before .before .before .args .s) (c .before .before .before .before .before .before .before .before .before .before .before .before .before .before .args .asked) (c .before .before .before .loop .a)) (c .before .before .before .before .before .before .before .before .before .before .before .before .before .before .args .wanted)
-tested c = c .agree .ensures ∙ ap (λ (b : Bool). Bool·beq b (c .before .before .before .before .before .before .before .before .before .before .before .before .before .before .args .wanted)) (c .before .judge-action .ensures)
+tested : (c : tie.After-agree Inv-loop μ-loop) →
+    let b = c .before .before .before .before .before .before .before .before .before .before .before .before .before .before in
+    c .agree .result ≡ Bool·beq (keeps (b .args .kind)
+    (modelOf (b .args .d) (b .args .marks .now) (b .args .action-starts .now) (b .args .branch-starts .now) (b .args .destinations .now)
+    (b .args .weights .now)) (claimOf (b .args .c) (b .args .costs .now) (b .args .claims .now) (b .args .ranks .now)) (b .args .s) (b .args .asked)
+    (c .before .before .before .loop .a)) (b .args .wanted)
+tested c =
+    c .agree .ensures ∙ ap (λ (b : Bool). Bool·beq b
+    (c .before .before .before .before .before .before .before .before .before .before .before .before .before .before .args .wanted))
+    (c .before .judge-action .ensures)
 
 returns : tie.Need-returns Inv-loop μ-loop
 returns c = (
@@ -57,7 +67,12 @@ loop-again : tie.Need-loop-again Inv-loop μ-loop
 loop-again c = seek-pass (c .before .before .before .before .loop .inv) (c .before .before .before .loop-test .taken) (sym (tested (c .before)) ∙ c .if1 .left)
 
 add-a : tie.Need-add-a Inv-loop μ-loop
-add-a c = omega (arith, c .before .before .before .before .before .before .shared-slice-known9 .given (c .before .before .before .before .before .before .before .before .before .before .before .before .before .before .before .args .s + 1))
+add-a c =
+    omega (
+      arith,
+      c .before .before .before .before .before .before .shared-slice-known9 .given
+          (c .before .before .before .before .before .before .before .before .before .before .before .before .before .before .before .args .s + 1),
+    )
 
 returns-2 : tie.Need-returns-2 Inv-loop μ-loop
 returns-2 c = (seek-end (c .before .loop .inv) (c .loop-test .left), le-refl _)
@@ -65,6 +80,10 @@ returns-2 c = (seek-end (c .before .loop .inv) (c .loop-test .left), le-refl _)
 pub lowest-spec : {M : Type 1} → statement M
 lowest-spec =
     tie.close
-    (tie.spec Inv-loop μ-loop (λ c. omega arith) (λ c. omega (arith, c .before .before .before .before .before .before .before .before .pre .0 .table2)) (λ c. omega (arith, c .before .before .before .before .before .before .before .before .before .pre .0 .table2)) cast-hi
-    (λ c. omega (arith, c .before .before .before .before .before .before .before .before .before .pre .0 .table2)) (λ c. omega (arith, c .before .before .before .before .before .before .before .before .before .before .pre .0 .table2)) cast-a loop-holds judge-action-requires (λ c κs. search needs) returns add-a
+    (tie.spec Inv-loop μ-loop (λ c. omega arith)
+    (λ c. omega (arith, c .before .before .before .before .before .before .before .before .pre .0 .table2))
+    (λ c. omega (arith, c .before .before .before .before .before .before .before .before .before .pre .0 .table2)) cast-hi
+    (λ c. omega (arith, c .before .before .before .before .before .before .before .before .before .pre .0 .table2))
+    (λ c. omega (arith, c .before .before .before .before .before .before .before .before .before .before .pre .0 .table2)) cast-a loop-holds
+    judge-action-requires (λ c κs. search needs) returns add-a
     (λ c. omega arith) loop-again returns-2)

@@ -28,12 +28,13 @@ abbrev μ-loop : tie.MeasureT-loop
 loop-holds : tie.Need-loop-holds Inv-loop μ-loop
 unfolding leastOf
 loop-holds c =
-    let x = c .before .before .before .before .args in
+    let b = c .before .before .before .before in
+    let x = b .args in
     record {
-      weighing = weigh-start (c .before .before .before .before .pre .0);
-      sinking = sink-start (λ i. getD (x .ranks .now) (getD (x .destinations .now) i 0) 0) none (x .lo) (x .hi) (c .before .before .before .before .pre .0 .low);
+      weighing = weigh-start (b .pre .0);
+      sinking = sink-start (λ i. getD (x .ranks .now) (getD (x .destinations .now) i 0) 0) none (x .lo) (x .hi) (b .pre .0 .low);
       small = le-refl none;
-      ranked = c .before .before .before .before .pre .1;
+      ranked = b .pre .1;
     }
 
 mul-place : tie.Need-mul-place Inv-loop μ-loop
@@ -67,18 +68,23 @@ add-total : tie.Need-add-total Inv-loop μ-loop
 add-total c = omega (arith, sum-fits (c .before .before .before .before .loop .inv .weighing) (c .before .before .before .loop-test .taken))
 
 mul-lesser : tie.Need-mul-lesser Inv-loop μ-loop
-mul-lesser c = omega (arith, place-within (c .before .before .before .before .loop .inv .weighing) (c .before .before .before .loop-test .taken), c .before .before .before .before .loop .inv .ranked)
+mul-lesser c =
+    let b = c .before .before .before .before in
+    omega (arith, place-within (b .loop .inv .weighing) (c .before .before .before .loop-test .taken), b .loop .inv .ranked)
 
 shared-slice-read-lesser : tie.Need-shared-slice-read-lesser Inv-loop μ-loop
-shared-slice-read-lesser c = omega (arith, place-within (c .before .before .before .before .before .loop .inv .weighing) (c .before .before .before .before .loop-test .taken), c .before .before .before .before .before .loop .inv .ranked)
+shared-slice-read-lesser c =
+    let b = c .before .before .before .before .before in
+    omega (arith, place-within (b .loop .inv .weighing) (c .before .before .before .before .loop-test .taken), b .loop .inv .ranked)
 
 loop-again : tie.Need-loop-again Inv-loop μ-loop
 loop-again c =
+    let b = c .before .before .before .before .before .before in
     record {
-      weighing = weigh-pass (c .before .before .before .before .before .before .loop .inv .weighing) (c .before .before .before .before .before .loop-test .taken);
-      sinking = sink-pass (c .before .before .before .before .before .before .loop .inv .sinking) (c .before .before .before .before .before .loop-test .taken) (c .lesser .result) (c .lesser .ensures);
-      small = omega (arith, c .lesser .ensures, c .before .before .before .before .before .before .loop .inv .small);
-      ranked = c .before .before .before .before .before .before .loop .inv .ranked;
+      weighing = weigh-pass (b .loop .inv .weighing) (c .before .before .before .before .before .loop-test .taken);
+      sinking = sink-pass (b .loop .inv .sinking) (c .before .before .before .before .before .loop-test .taken) (c .lesser .result) (c .lesser .ensures);
+      small = omega (arith, c .lesser .ensures, b .loop .inv .small);
+      ranked = b .loop .inv .ranked;
     }
 
 returns : tie.Need-returns Inv-loop μ-loop

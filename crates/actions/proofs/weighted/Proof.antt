@@ -50,5 +50,6 @@ returns c = weigh-end (c .before .loop .inv) (c .loop-test .left)
 pub weighted-spec : {M : Type 1} → statement M
 weighted-spec =
     tie.close
-    (tie.spec Inv-loop μ-loop loop-holds mul-place shared-slice-read-place cast-place (λ c. omega (arith, c .before .before .loop .inv .able)) shared-slice-read-total
+    (tie.spec Inv-loop μ-loop loop-holds mul-place shared-slice-read-place cast-place (λ c. omega (arith, c .before .before .loop .inv .able))
+    shared-slice-read-total
     cast-total mul-total-2 shared-slice-read-total-2 mul-total-3 add-total (λ c. omega arith) (λ c. omega arith) loop-again returns)

@@ -10,11 +10,15 @@ use Rattle.checker.proofs.check.Tie as tie
 
 check-kind-requires : tie.Need-check-kind-requires
 check-kind-requires c κs =
-    subst (λ (k : Kind). Columns k) (sym (named _ (c .before .before .before .before .before .before .before .before .before .before .before .before .before .before .args .kind) (sym (c .before .before .k .given .1) ∙ c .before .before .before .before .kind-of .ensures) .1)) (columns (c .before .before .before .before .before .before .before .before .before .before .before .before .before .before .args .kind))
+    let b = c .before .before .before .before .before .before .before .before .before .before .before .before .before .before in
+    subst (λ (k : Kind). Columns k)
+    (sym (named _ (b .args .kind) (sym (c .before .before .k .given .1) ∙ c .before .before .before .before .kind-of .ensures) .1)) (columns (b .args .kind))
 
 returns : tie.Need-returns
 returns c =
-    known-kept _ _ _ _ _ _ _ (sym (c .before .before .before .before .before .k .given .1) ∙ c .before .before .before .before .before .before .before .kind-of .ensures) (c .before .before .check-kind .ensures .0) (c .before .before .check-kind .ensures .1)
+    known-kept _ _ _ _ _ _ _ (sym (c .before .before .before .before .before .k .given .1)
+    ∙ c .before .before .before .before .before .before .before .kind-of .ensures) (c .before .before .check-kind .ensures .0)
+    (c .before .before .check-kind .ensures .1)
 
 returns-2 : tie.Need-returns-2
 returns-2 c = unknown-kept _ _ _ _ _ (sym (c .enum-told .given .1) ∙ c .before .before .kind-of .ensures) refl

@@ -15,12 +15,15 @@ returns c =
 
 settle-requires : tie.Need-settle-requires
 settle-requires c κs =
-    let h = goes (c .before .before .accepts .ensures) (c .before .if1 .left) (c .before .before .before .refusals .ensures) in
-    (ready _ _ _ _ (c .before .before .before .before .before .before .before .before .before .before .before .before .before .before .pre) h, choices-long _ _ _ _ h)
+    let h = goes (c .before .before .accepts .ensures) (c .before .if1 .left) (c .before .before .before .refusals .ensures) in (
+      ready _ _ _ _ (c .before .before .before .before .before .before .before .before .before .before .before .before .before .before .pre) h,
+      choices-long _ _ _ _ h,
+    )
 
 returns-2 : tie.Need-returns-2
 returns-2 c =
-    let h = goes (c .before .before .before .before .before .accepts .ensures) (c .before .before .before .before .if1 .left) (c .before .before .before .before .before .before .refusals .ensures) in
+    let h = goes (c .before .before .before .before .before .accepts .ensures) (c .before .before .before .before .if1 .left)
+    (c .before .before .before .before .before .before .refusals .ensures) in
     judged-kept _ _ _ _ h _ _ (c .before .before .settle .ensures .0) (c .before .before .settle .ensures .1)
 
 pub check-kind-spec : {M : Type 1} → statement M

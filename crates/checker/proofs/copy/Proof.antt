@@ -24,7 +24,10 @@ loop-again c = fill-pass (c .before .before .loop .inv) (omega (arith, fill-leng
 returns : tie.Need-returns Inv-loop μ-loop
 returns c =
     fill-end (c .before .loop .inv) (omega (arith, fill-length (c .before .loop .inv), c .loop-test .left))
-    ∙ rw (listed-take (c .before .before .args .room .now) (length (c .before .before .args .choices .now)) (c .before .before .pre), drop-of-length-le (c .before .before .args .choices .now) (le-refl _))
+    ∙ rw (
+      listed-take (c .before .before .args .room .now) (length (c .before .before .args .choices .now)) (c .before .before .pre),
+      drop-of-length-le (c .before .before .args .choices .now) (le-refl _),
+    )
     (append-nil _)
 
 pub copy-spec : {M : Type 1} → statement M

@@ -12,21 +12,31 @@ use Rattle.checker.proofs.settle.Statement.{statement}
 use Rattle.checker.proofs.settle.Tie as tie
 
 copy-requires : tie.Need-copy-requires
-copy-requires c κs = omega (arith, c .before .before .before .before .before .before .before .before .before .before .before .before .before .before .before .before .before .before .pre .1, at-most (c .before .before .before .before .before .before .before .before .before .before .before .before .before .before .before .before .before .before .args .kind .choices) (length (c .before .before .before .before .before .before .before .before .before .before .before .before .before .before .before .before .before .before .args .marks .now)), c .before .before .before .before .before .before .before .before .before .before .before .before .before .before .before .before .before .before .pre .0 .n-most, c .before .before .before .before .before .before .judge .kept)
+copy-requires c κs =
+    let b = c .before .before .before .before .before .before .before .before .before .before .before .before .before .before .before .before .before .before in
+    omega (
+      arith,
+      b .pre .1,
+      at-most (b .args .kind .choices) (length (b .args .marks .now)),
+      b .pre .0 .n-most,
+      c .before .before .before .before .before .before .judge .kept,
+    )
 
 returns : tie.Need-returns
-returns c = (
-  c .before .before .before .before .before .before .before .before .before .before .judge .ensures .0,
-  c .before .before .before .copy .ensures
-      ∙ ap (λ (x : List ℕ). take (length (c .before .before .before .before .before .before .before .before .before .before .before .before .before .before .before .before .before .before .before .before .before .before .args .choices .now)) x) (c .before .before .before .before .before .before .before .before .before .before .judge .ensures .1)
-      ∙ copied _ _ _ _ (c .before .before .before .before .before .before .before .before .before .before .before .before .before .before .before .before .before .before .before .before .before .before .pre .0 .columns) (c .before .before .before .before .before .before .before .before .before .before .before .before .before .before .before .before .before .before .before .before .before .before .pre .1) (holds (sym (ap accepts (c .before .before .before .before .before .before .before .before .before .before .judge .ensures .0)) ∙ sym (c .before .before .before .before .before .before .before .accepts .ensures) ∙ c .before .before .before .before .before .before .if1 .taken)) _,
-)
+returns c =
+    let b = c .before .before .before .before .before .before .before .before .before .before .before .before .before .before .before .before .before .before .before .before .before .before in (
+      c .before .before .before .before .before .before .before .before .before .before .judge .ensures .0,
+      c .before .before .before .copy .ensures
+          ∙ ap (λ (x : List ℕ). take (length (b .args .choices .now)) x)
+          (c .before .before .before .before .before .before .before .before .before .before .judge .ensures .1) ∙ copied _ _ _ _ (b .pre .0 .columns)
+          (b .pre .1) (holds (sym (ap accepts (c .before .before .before .before .before .before .before .before .before .before .judge .ensures .0))
+          ∙ sym (c .before .before .before .before .before .before .before .accepts .ensures) ∙ c .before .before .before .before .before .before .if1 .taken)) _,
+    )
 
 returns-2 : tie.Need-returns-2
-returns-2 c = (
-  c .before .before .before .before .before .judge .ensures .0,
-  unchosen _ _ _ _ _ (sym (ap accepts (c .before .before .before .before .before .judge .ensures .0)) ∙ sym (c .before .before .accepts .ensures) ∙ c .before .if1 .left),
-)
+returns-2 c =
+    let b = c .before .before .before .before .before in
+    (b .judge .ensures .0, unchosen _ _ _ _ _ (sym (ap accepts (b .judge .ensures .0)) ∙ sym (c .before .before .accepts .ensures) ∙ c .before .if1 .left))
 
 pub settle-spec : {M : Type 1} → statement M
 settle-spec =

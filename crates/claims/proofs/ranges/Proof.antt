@@ -14,26 +14,35 @@ twelve : (c : tie.Else1) → T (accepts (costsTest (c .before .before .before .b
 twelve c = goes (c .before .accepts .ensures) (c .if1 .left) (c .before .before .costs-test .ensures)
 
 -- the claims were tested against the kind's limit
-tested : (c : tie.After-claims-test) → c .claims-test .result ≡ claimsTest (limitOf (c .before .before .before .before .before .before .before .before .args .kind) (c .before .before .before .before .before .before .before .before .args .c)) (c .before .before .before .before .before .before .before .before .args .claims .now)
-tested c = c .claims-test .ensures ∙ ap (λ (l : ℕ). claimsTest l (c .before .before .before .before .before .before .before .before .args .claims .now)) (c .before .greatest-claim .ensures)
+tested : (c : tie.After-claims-test) →
+    let b = c .before .before .before .before .before .before .before .before in
+    c .claims-test .result ≡ claimsTest (limitOf (b .args .kind) (b .args .c)) (b .args .claims .now)
+tested c =
+    c .claims-test .ensures ∙ ap (λ (l : ℕ). claimsTest l (c .before .before .before .before .before .before .before .before .args .claims .now))
+    (c .before .greatest-claim .ensures)
 
 returns : tie.Need-returns
 unfolding rangesOf
-returns c = c .before .before .costs-test .ensures ∙ sym (tried-stop _ _ _ (stops (c .before .accepts .ensures) (c .if1 .taken) (c .before .before .costs-test .ensures)))
+returns c =
+    c .before .before .costs-test .ensures
+    ∙ sym (tried-stop _ _ _ (stops (c .before .accepts .ensures) (c .if1 .taken) (c .before .before .costs-test .ensures)))
 
 returns-2 : tie.Need-returns-2
 unfolding rangesOf
 returns-2 c =
     tested (c .before .before)
-    ∙ sym (tried-go _ _ _ (twelve (c .before .before .before .before)) ∙ tried-stop _ _ _ (stops (c .before .accepts2 .ensures) (c .if2 .taken) (tested (c .before .before))))
+    ∙ sym (tried-go _ _ _ (twelve (c .before .before .before .before))
+    ∙ tried-stop _ _ _ (stops (c .before .accepts2 .ensures) (c .if2 .taken) (tested (c .before .before))))
 
 returns-3 : tie.Need-returns-3
 unfolding rangesOf ranksTest
 returns-3 c =
+    let b = c .before .before .before .before .before .before .before .before .before .before .before in
     c .ranks-test .ensures
     ∙ sym
-    (tried-go _ _ _ (twelve (c .before .before .before .before .before)) ∙ tried-go _ _ _ (goes (c .before .before .accepts2 .ensures) (c .before .if2 .left) (tested (c .before .before .before)))
-    ∙ throughout-word (λ j. rankRight (c .before .before .before .before .before .before .before .before .before .before .before .args .n) (getD (c .before .before .before .before .before .before .before .before .before .before .before .args .ranks .now) j 0)) (length (c .before .before .before .before .before .before .before .before .before .before .before .args .ranks .now)) 14)
+    (tried-go _ _ _ (twelve (c .before .before .before .before .before))
+    ∙ tried-go _ _ _ (goes (c .before .before .accepts2 .ensures) (c .before .if2 .left) (tested (c .before .before .before)))
+    ∙ throughout-word (λ j. rankRight (b .args .n) (getD (b .args .ranks .now) j 0)) (length (b .args .ranks .now)) 14)
 
 pub ranges-spec : {M : Type 1} → statement M
 ranges-spec =

@@ -18,7 +18,9 @@ unfolding asksFall
 returns c = rw (← c .before .is-at-least .ensures, not-true (c .before .is-at-least .result) (c .if1 .taken))
 
 shared-slice-read-result : tie.Need-shared-slice-read-result
-shared-slice-read-result c = omega (arith, has-rank (c .before .before .before .before .before .before .before .before .before .before .before .pre .0) (least (c .before)), c .before .before .before .before .before .before .before .before .before .before .before .pre .1 .0)
+shared-slice-read-result c =
+    let b = c .before .before .before .before .before .before .before .before .before .before .before in
+    omega (arith, has-rank (b .pre .0) (least (c .before)), b .pre .1 .0)
 
 returns-2 : tie.Need-returns-2
 unfolding asksFall

@@ -30,11 +30,17 @@ same-length c = go-length (c .before .before .before .before .loop .inv)
 
 returns : tie.Need-returns Inv-loop μ-loop
 returns c =
-    let r = go-stop (c .before .before .before .before .loop .inv) (c .before .before .before .loop-test .taken) (stops (c .before .accepts .ensures) (c .if1 .taken) (c .before .before .judge-state .ensures .0)) in
+    let r = go-stop (c .before .before .before .before .loop .inv) (c .before .before .before .loop-test .taken)
+    (stops (c .before .accepts .ensures) (c .if1 .taken) (c .before .before .judge-state .ensures .0)) in
     (c .before .before .judge-state .ensures .0 ∙ r .0, r .1)
 
 slice-write-room : tie.Need-slice-write-room Inv-loop μ-loop
-slice-write-room c = omega (arith, go-length (c .before .before .before .before .loop .inv), c .before .before .before .before .before .before .before .before .before .before .before .before .before .before .pre .1)
+slice-write-room c =
+    omega (
+      arith,
+      go-length (c .before .before .before .before .loop .inv),
+      c .before .before .before .before .before .before .before .before .before .before .before .before .before .before .pre .1,
+    )
 
 mul-room : tie.Need-mul-room Inv-loop μ-loop
 mul-room c = omega arith

@@ -8,22 +8,30 @@ use Rattle.conditions.proofs.judge_state.Statement.{statement}
 use Rattle.conditions.proofs.judge_state.Tie as tie
 
 judge-target-requires : tie.Need-judge-target-requires
-judge-target-requires c κs = (c .before .before .before .before .before .before .before .before .before .before .pre .0, (c .before .before .before .before .before .before .before .before .before .before .pre .1, eq-eqb _ 1 (c .if1 .taken)))
+judge-target-requires c κs =
+    let b = c .before .before .before .before .before .before .before .before .before .before in
+    (b .pre .0, (b .pre .1, eq-eqb _ 1 (c .if1 .taken)))
 
 returns : tie.Need-returns
 returns c = (c .judge-target .ensures, λ h. target-picked _ _ _ _ (eq-eqb _ 1 (c .before .if1 .taken)))
 
 judge-some-requires : tie.Need-judge-some-requires
-judge-some-requires c κs = (c .before .before .before .before .before .before .before .before .before .before .before .before .pre .0, (c .before .before .before .before .before .before .before .before .before .before .before .before .pre .1, (ne-eqb _ 1 (c .before .before .if1 .left), sym (c .before .is-some .ensures) ∙ c .if2 .taken)))
+judge-some-requires c κs =
+    let b = c .before .before .before .before .before .before .before .before .before .before .before .before in
+    (b .pre .0, (b .pre .1, (ne-eqb _ 1 (c .before .before .if1 .left), sym (c .before .is-some .ensures) ∙ c .if2 .taken)))
 
 judge-every-requires : tie.Need-judge-every-requires
-judge-every-requires c κs = (c .before .before .before .before .before .before .before .before .before .before .before .before .pre .0, (c .before .before .before .before .before .before .before .before .before .before .before .before .pre .1, (ne-eqb _ 1 (c .before .before .if1 .left), sym (c .before .is-some .ensures) ∙ c .if2 .left)))
+judge-every-requires c κs =
+    let b = c .before .before .before .before .before .before .before .before .before .before .before .before in
+    (b .pre .0, (b .pre .1, (ne-eqb _ 1 (c .before .before .if1 .left), sym (c .before .is-some .ensures) ∙ c .if2 .left)))
 
 returns-3 : tie.Need-returns-3
-returns-3 c = (
-  c .judge-every .ensures,
-  λ h. none-picked _ _ _ _ (ne-eqb _ 1 (c .before .before .before .if1 .left)) (rising (c .before .before .before .before .before .before .before .before .before .before .before .before .before .pre .0) _ (c .before .before .before .before .before .before .before .before .before .before .before .before .before .pre .1)) (sym (c .before .before .is-some .ensures) ∙ c .before .if2 .left),
-)
+returns-3 c =
+    let b = c .before .before .before .before .before .before .before .before .before .before .before .before .before in (
+      c .judge-every .ensures,
+      λ h. none-picked _ _ _ _ (ne-eqb _ 1 (c .before .before .before .if1 .left)) (rising (b .pre .0) _ (b .pre .1))
+          (sym (c .before .before .is-some .ensures) ∙ c .before .if2 .left),
+    )
 
 pub judge-state-spec : {M : Type 1} → statement M
 judge-state-spec =

@@ -24,23 +24,32 @@ unfolding condition23 ask
 returns-2 c = rw (least (c .before .before), c .if2 .taken)
 
 shared-slice-read-if3 : tie.Need-shared-slice-read-if3
-shared-slice-read-if3 c = omega (arith, has-rank (c .before .before .before .before .before .before .before .before .before .before .before .before .before .pre .0) (least (c .before .before .before)), c .before .before .before .before .before .before .before .before .before .before .before .before .before .pre .1)
+shared-slice-read-if3 c =
+    let b = c .before .before .before .before .before .before .before .before .before .before .before .before .before in
+    omega (arith, has-rank (b .pre .0) (least (c .before .before .before)), b .pre .1)
 
 returns-3 : tie.Need-returns-3
 unfolding condition23 ask
 returns-3 c =
+    let b = c .before .before .before .before .before .before .before .before .before .before .before .before .before .before in
     rw (
       least (c .before .before .before .before),
-      ne-eqb (getD (c .before .before .before .before .before .before .before .before .before .before .before .before .before .before .args .claims .now) (c .before .before .before .before .before .before .before .before .before .before .before .before .before .before .args .s) 0) 0 (c .before .before .if2 .left),
-      ne-eqb (getD (c .before .before .before .before .before .before .before .before .before .before .before .before .before .before .args .ranks .now) (c .before .before .before .before .before .before .before .before .before .before .before .before .before .before .args .s) 0) none (c .if3 .taken),
+      ne-eqb (getD (b .args .claims .now) (b .args .s) 0) 0 (c .before .before .if2 .left),
+      ne-eqb (getD (b .args .ranks .now) (b .args .s) 0) none (c .if3 .taken),
     )
 
 returns-4 : tie.Need-returns-4
 unfolding condition23 ask
-returns-4 c = rw (least (c .before .before .before .before), ne-eqb (getD (c .before .before .before .before .before .before .before .before .before .before .before .before .before .before .args .claims .now) (c .before .before .before .before .before .before .before .before .before .before .before .before .before .before .args .s) 0) 0 (c .before .before .if2 .left), c .if3 .left)
+returns-4 c =
+    let b = c .before .before .before .before .before .before .before .before .before .before .before .before .before .before in
+    rw (least (c .before .before .before .before), ne-eqb (getD (b .args .claims .now) (b .args .s) 0) 0 (c .before .before .if2 .left), c .if3 .left)
 
 pub rank-test-spec : {M : Type 1} → statement M
 rank-test-spec =
     tie.close
-    (tie.spec (λ c κs. search needs) returns (λ c. search needs) (λ c. has-claim (c .before .before .before .before .before .before .before .before .before .before .before .pre .0) (c .before .before .before .before .before .before .before .before .before .before .before .args .s) (c .before .before .before .before .before .before .before .before .before .before .before .pre .1)) returns-2
-    (λ c. search needs) shared-slice-read-if3 returns-3 (λ c. omega (arith, c .before .before .before .before .before .before .before .before .before .before .before .before .before .before .pre .0 .n-most, c .before .before .before .before .before .before .before .before .before .before .before .before .before .before .pre .1)) returns-4)
+    (tie.spec (λ c κs. search needs) returns (λ c. search needs)
+    (λ c. has-claim (c .before .before .before .before .before .before .before .before .before .before .before .pre .0)
+    (c .before .before .before .before .before .before .before .before .before .before .before .args .s)
+    (c .before .before .before .before .before .before .before .before .before .before .before .pre .1)) returns-2
+    (λ c. search needs) shared-slice-read-if3 returns-3
+    (λ c. omega (arith, c .before .before .before .before .before .before .before .before .before .before .before .before .before .before .pre .0 .n-most, c .before .before .before .before .before .before .before .before .before .before .before .before .before .before .pre .1)) returns-4)

@@ -20,24 +20,32 @@ unfolding tried walkTest
 walk-word t = settled (walkTest t) (λ h. all-each (actionTest t) (actions t) pass 0 (λ a p l. each-all (actionTest t) (actions t) pass 0 h a p l))
 
 -- 6 passed, then 7, then 8
-six : (c : tie.Else1) → T (accepts (startsTest 6 (c .before .before .before .before .before .before .before .before .args .action-starts .now) (length (c .before .before .before .before .before .before .before .before .args .branch-starts .now) - 1)))
+six : (c : tie.Else1) →
+    let b = c .before .before .before .before .before .before .before .before in
+    T (accepts (startsTest 6 (b .args .action-starts .now) (length (b .args .branch-starts .now) - 1)))
 six c = goes (c .before .accepts .ensures) (c .if1 .left) (c .before .before .starts-test .ensures)
 
-seven : (c : tie.Else2) → T (accepts (startsTest 7 (c .before .before .before .before .before .before .before .before .before .before .before .args .branch-starts .now) (length (c .before .before .before .before .before .before .before .before .before .before .before .args .destinations .now))))
+seven : (c : tie.Else2) →
+    let b = c .before .before .before .before .before .before .before .before .before .before .before in
+    T (accepts (startsTest 7 (b .args .branch-starts .now) (length (b .args .destinations .now))))
 seven c = goes (c .before .accepts2 .ensures) (c .if2 .left) (c .before .before .starts-test2 .ensures)
 
-eight : (c : tie.Else3) → T (accepts (marksTest (c .before .before .before .before .before .before .before .before .before .before .before .before .before .before .args .marks .now)))
+eight : (c : tie.Else3) →
+    T (accepts (marksTest (c .before .before .before .before .before .before .before .before .before .before .before .before .before .before .args .marks .now)))
 eight c = goes (c .before .accepts3 .ensures) (c .if3 .left) (c .before .before .marks-test .ensures)
 
 returns : tie.Need-returns
 unfolding rowTests
-returns c = c .before .before .starts-test .ensures ∙ sym (tried-stop _ _ _ (stops (c .before .accepts .ensures) (c .if1 .taken) (c .before .before .starts-test .ensures)))
+returns c =
+    c .before .before .starts-test .ensures
+    ∙ sym (tried-stop _ _ _ (stops (c .before .accepts .ensures) (c .if1 .taken) (c .before .before .starts-test .ensures)))
 
 returns-2 : tie.Need-returns-2
 unfolding rowTests
 returns-2 c =
     c .before .before .starts-test2 .ensures
-    ∙ sym (tried-go _ _ _ (six (c .before .before .before)) ∙ tried-stop _ _ _ (stops (c .before .accepts2 .ensures) (c .if2 .taken) (c .before .before .starts-test2 .ensures)))
+    ∙ sym (tried-go _ _ _ (six (c .before .before .before))
+    ∙ tried-stop _ _ _ (stops (c .before .accepts2 .ensures) (c .if2 .taken) (c .before .before .starts-test2 .ensures)))
 
 returns-3 : tie.Need-returns-3
 unfolding rowTests
@@ -49,18 +57,21 @@ returns-3 c =
 
 walk-test-requires : tie.Need-walk-test-requires
 unfolding startsTest
-walk-test-requires c κs = (
-  c .before .before .before .before .before .before .before .before .before .before .before .before .before .before .pre,
-  starts-right (c .before .before .before .before .before .before .before .before .before .before .before .before .before .before .args .branch-starts .now) (length (c .before .before .before .before .before .before .before .before .before .before .before .before .before .before .args .destinations .now)) (omega (arith, c .before .before .before .before .before .before .before .before .before .before .before .before .before .before .pre))
-      (throughout-all (startRight (c .before .before .before .before .before .before .before .before .before .before .before .before .before .before .args .branch-starts .now) (length (c .before .before .before .before .before .before .before .before .before .before .before .before .before .before .args .destinations .now))) (length (c .before .before .before .before .before .before .before .before .before .before .before .before .before .before .args .branch-starts .now)) 7 (seven (c .before .before .before))),
-)
+walk-test-requires c κs =
+    let b = c .before .before .before .before .before .before .before .before .before .before .before .before .before .before in (
+      b .pre,
+      starts-right (b .args .branch-starts .now) (length (b .args .destinations .now)) (omega (arith, b .pre))
+          (throughout-all (startRight (b .args .branch-starts .now) (length (b .args .destinations .now)))
+          (length (b .args .branch-starts .now)) 7 (seven (c .before .before .before))),
+    )
 
 returns-4 : tie.Need-returns-4
 unfolding rowTests
 returns-4 c =
     c .walk-test .ensures
     ∙ sym
-    (tried-go _ _ _ (six (c .before .before .before .before .before .before .before)) ∙ tried-go _ _ _ (seven (c .before .before .before .before)) ∙ tried-go _ _ _ (eight (c .before)) ∙ walk-word _)
+    (tried-go _ _ _ (six (c .before .before .before .before .before .before .before)) ∙ tried-go _ _ _ (seven (c .before .before .before .before))
+    ∙ tried-go _ _ _ (eight (c .before)) ∙ walk-word _)
 
 pub count-spec : {M : Type 1} → statement M
 count-spec =

@@ -26,16 +26,20 @@ loop-holds c =
     try-start (actionTest t) 0 (actions t) pass (search needs)
 
 action-test-requires : tie.Need-action-test-requires Inv-loop μ-loop
-action-test-requires c κs = (c .before .before .before .before .before .before .before .pre .0, (c .before .before .before .before .before .before .before .pre .1, omega arith))
+action-test-requires c κs =
+    let b = c .before .before .before .before .before .before .before in
+    (b .pre .0, (b .pre .1, omega arith))
 
 returns : tie.Need-returns Inv-loop μ-loop
 returns c =
     c .before .before .action-test .ensures
-    ∙ try-stop (c .before .before .before .before .loop .inv) (c .before .before .before .loop-test .taken) (stops (c .before .accepts .ensures) (c .if1 .taken) (c .before .before .action-test .ensures))
+    ∙ try-stop (c .before .before .before .before .loop .inv) (c .before .before .before .loop-test .taken)
+    (stops (c .before .accepts .ensures) (c .if1 .taken) (c .before .before .action-test .ensures))
 
 loop-again : tie.Need-loop-again Inv-loop μ-loop
 loop-again c =
-    try-pass (c .before .before .before .before .loop .inv) (c .before .before .before .loop-test .taken) (goes (c .before .accepts .ensures) (c .if1 .left) (c .before .before .action-test .ensures))
+    try-pass (c .before .before .before .before .loop .inv) (c .before .before .before .loop-test .taken)
+    (goes (c .before .accepts .ensures) (c .if1 .left) (c .before .before .action-test .ensures))
 
 returns-2 : tie.Need-returns-2 Inv-loop μ-loop
 returns-2 c = try-end (c .before .loop .inv) (c .loop-test .left)
