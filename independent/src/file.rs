@@ -149,39 +149,46 @@ struct Reader<'a> {
     place: usize,
 }
 
-impl Reader<'_> {
-    fn take<const COUNT: usize>(&mut self) -> [u8; COUNT] {
-        let end = self.place + COUNT;
-        let taken = std::array::from_fn(|offset| self.bytes[self.place + offset]);
+impl<'a> Reader<'a> {
+    fn stretch(&mut self, count: usize) -> &'a [u8] {
+        let end = self.place + count;
+        let stretch = &self.bytes[self.place..end];
         self.place = end;
-        taken
+        stretch
     }
 
     fn byte(&mut self) -> u8 {
-        let [byte] = self.take();
-        byte
+        self.stretch(1)[0]
     }
 
     fn word(&mut self) -> u32 {
-        u32::from_be_bytes(self.take())
-    }
-
-    fn long(&mut self) -> u64 {
-        u64::from_be_bytes(self.take())
+        let mut word = [0];
+        self.words(&mut word);
+        word[0]
     }
 
     fn words(&mut self, into: &mut [u32]) {
-        into.fill_with(|| self.word());
+        let stretch = self.stretch(4 * into.len());
+        for (word, bytes) in into.iter_mut().zip(stretch.chunks_exact(4)) {
+            *word = u32::from_be_bytes(bytes.try_into().expect("four bytes"));
+        }
+    }
+
+    fn longs(&mut self, into: &mut [u64]) {
+        let stretch = self.stretch(8 * into.len());
+        for (long, bytes) in into.iter_mut().zip(stretch.chunks_exact(8)) {
+            *long = u64::from_be_bytes(bytes.try_into().expect("eight bytes"));
+        }
     }
 
     fn tables(&mut self, entries: &Entries, lent: &mut Lent) {
-        lent.marks[..entries.marks].fill_with(|| self.byte());
+        lent.marks[..entries.marks].copy_from_slice(self.stretch(entries.marks));
         self.words(&mut lent.action_starts[..entries.action_starts]);
         self.words(&mut lent.branch_starts[..entries.branch_starts]);
         self.words(&mut lent.destinations[..entries.destinations]);
         self.words(&mut lent.weights[..entries.weights]);
         self.words(&mut lent.costs[..entries.costs]);
-        lent.claims[..entries.claims].fill_with(|| self.long());
+        self.longs(&mut lent.claims[..entries.claims]);
         self.words(&mut lent.ranks[..entries.ranks]);
     }
 }
