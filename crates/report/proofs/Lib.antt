@@ -1,3 +1,3 @@
-pub mod Putting
+pub mod Listing
 pub mod Digits
 pub mod Printed

@@ -1,3 +1,4 @@
 pub mod Swap
 pub mod Fill
 pub mod First
+pub mod Spelled

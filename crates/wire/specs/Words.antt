@@ -1,6 +1,6 @@
 -- Big-endian words: a number in so many bytes, the highest first.
 use Prim.Native.Nat.{ℕ, zero, suc, _+_, _*_, _/_, _%_, _^_}
-use mathlib.Core.List.{List}
+use mathlib.Core.List.{List, [], _∷_}
 use lib.ListN.{getD}
 
 -- the number in the width bytes of a file from a place on
@@ -8,7 +8,12 @@ unfoldable pub word : ℕ → List ℕ → ℕ → ℕ
 word zero file at = 0
 word (suc width) file at = getD file at 0 * 256 ^ width + word width file (at + 1)
 
--- the same with the lowest byte first
+-- the bytes of a number, as many as the width
+unfoldable pub bytes : ℕ → ℕ → List ℕ
+bytes zero x = []
+bytes (suc width) x = x / 256 ^ width % 256 ∷ bytes width x
+
+-- the same number with the lowest byte first
 unfoldable pub little : ℕ → List ℕ → ℕ → ℕ
 little zero file at = 0
 little (suc width) file at = getD file at 0 + 256 * little width file (at + 1)
