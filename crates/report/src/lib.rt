@@ -4,7 +4,7 @@ ghost use mathlib.Core.List.{[], _∷_, _++_};
 ghost use Prim.Native.Nat.{_+_, _*_, _≤_, _<_};
 ghost use lib.ListN.{length, drop};
 ghost use Rattle.report.specs.Text.{decimal, dashed, field, headOf, lineOf, linesOf, textOf};
-ghost use Rattle.report.specs.Put.{Put};
+ghost use Rattle.walk.specs.Put.{Put};
 use model::Rank;
 use model::Verdict;
 
@@ -28,26 +28,6 @@ const ZERO: u8 = b'0';
 const BASE: u64 = 10;
 
 // Each of these puts bytes into the text from a place on, and answers the next place.
-fn byte(text: &mut [u8], at: usize, value: u8) -> usize
-    requires { ⌜ at < length (now text) ⌝ }
-    ensures { λ r. ⌜ Put (now (text .entry)) (now (text .exit)) at r (value ∷ []) ⌝ }
-{
-    text[at] = value;
-    at + 1
-}
-
-fn word(text: &mut [u8], at: usize, bytes: &[u8]) -> usize
-    requires { ⌜ at + length (now bytes) ≤ length (now text) ⌝ }
-    ensures { λ r. ⌜ Put (now (text .entry)) (now (text .exit)) at r (now (bytes .entry)) ⌝ }
-{
-    let mut i: usize = 0;
-    while i < bytes.len() {
-        text[at + i] = bytes[i];
-        i += 1;
-    }
-    at + i
-}
-
 // The digits of a number, with no zero in front.
 fn number(text: &mut [u8], at: usize, n: u64) -> usize
     requires { ⌜ at + length (decimal n) ≤ length (now text) ⌝ }
@@ -55,10 +35,10 @@ fn number(text: &mut [u8], at: usize, n: u64) -> usize
 {
     let digit = ZERO + (n % BASE) as u8;
     if n < BASE {
-        return byte(text, at, digit);
+        return wire::put8(text, at, digit);
     }
     let next = number(text, at, n / BASE);
-    byte(text, next, digit)
+    wire::put8(text, next, digit)
 }
 
 // A blank, and then a number.
@@ -67,7 +47,7 @@ fn spaced(text: &mut [u8], at: usize, n: u32) -> usize
     ensures put { λ r. ⌜ Put (now (text .entry)) (now (text .exit)) at r (field (decimal n)) ⌝ }
     ensures short { λ r. ⌜ r ≤ at + 11 ⌝ }
 {
-    let next = byte(text, at, BLANK);
+    let next = wire::put8(text, at, BLANK);
     number(text, next, n as u64)
 }
 
@@ -78,8 +58,8 @@ fn action(text: &mut [u8], at: usize, n: u32) -> usize
     ensures short { λ r. ⌜ r ≤ at + 11 ⌝ }
 {
     if n == Rank::NONE {
-        let next = byte(text, at, BLANK);
-        return byte(text, next, DASH);
+        let next = wire::put8(text, at, BLANK);
+        return wire::put8(text, next, DASH);
     }
     spaced(text, at, n)
 }
@@ -92,26 +72,26 @@ fn head(verdict: Verdict, text: &mut [u8]) -> usize
 {
     match verdict {
         Verdict::Accepted { rank } => {
-            let name = word(text, 0, b"accepted");
+            let name = wire::copy8(text, 0, b"accepted");
             let at = spaced(text, name, rank);
-            byte(text, at, NEWLINE)
+            wire::put8(text, at, NEWLINE)
         }
         Verdict::Refused { number, place } => {
-            let name = word(text, 0, b"refused");
+            let name = wire::copy8(text, 0, b"refused");
             let at = spaced(text, name, number);
             let end = spaced(text, at, place);
-            byte(text, end, NEWLINE)
+            wire::put8(text, end, NEWLINE)
         }
         Verdict::Violated {
             number,
             state,
             action: broken,
         } => {
-            let name = word(text, 0, b"violated");
+            let name = wire::copy8(text, 0, b"violated");
             let at = spaced(text, name, number);
             let next = spaced(text, at, state);
             let end = action(text, next, broken);
-            byte(text, end, NEWLINE)
+            wire::put8(text, end, NEWLINE)
         }
     }
 }
@@ -124,7 +104,7 @@ fn line(text: &mut [u8], at: usize, state: u64, choice: u32) -> usize
 {
     let name = number(text, at, state);
     let end = action(text, name, choice);
-    byte(text, end, NEWLINE)
+    wire::put8(text, end, NEWLINE)
 }
 
 fn lines(text: &mut [u8], from: usize, choices: &[u32]) -> usize

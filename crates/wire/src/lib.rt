@@ -2,8 +2,11 @@
 ghost use mathlib.Core.Path.{_≡_};
 ghost use Prim.Native.Nat.{_+_, _*_, _≤_};
 ghost use lib.ListN.{length};
-ghost use Rattle.wire.specs.Words.{word, little, reversed};
+ghost use mathlib.Core.List.{[], _∷_};
+ghost use Rattle.walk.specs.Put.{Put};
+ghost use Rattle.wire.specs.Words.{word, bytes, little, reversed};
 ghost use Rattle.wire.specs.Blocks.{blockOf, overwritten};
+ghost use Rattle.wire.specs.Sections.{spelled};
 
 // The bytes that a number takes: a byte, a word or a long word.
 pub struct Width {}
@@ -102,4 +105,72 @@ pub fn fill64(file: &[u8], at: usize, table: &mut [u64], count: usize)
         table[i] = word64(file, at + i * Width::LONG);
         i += 1;
     }
+}
+
+// Each of these puts bytes into a file from a place on, and answers the next place: a byte, and bytes as they lie.
+pub fn put8(file: &mut [u8], at: usize, x: u8) -> usize
+    requires { ⌜ at + 1 ≤ length (now file) ⌝ }
+    ensures { λ r. ⌜ Put (now (file .entry)) (now (file .exit)) at r (x ∷ []) ⌝ }
+{
+    file[at] = x;
+    at + Width::BYTE
+}
+
+pub fn copy8(file: &mut [u8], at: usize, table: &[u8]) -> usize
+    requires { ⌜ at + length (now table) ≤ length (now file) ⌝ }
+    ensures { λ r. ⌜ Put (now (file .entry)) (now (file .exit)) at r (now (table .entry)) ⌝ }
+{
+    let mut i: usize = 0;
+    while i < table.len() {
+        file[at + i] = table[i];
+        i += 1;
+    }
+    at + i
+}
+
+// A number in four bytes, and one in eight.
+pub fn put32(file: &mut [u8], at: usize, x: u32) -> usize
+    requires { ⌜ at + 4 ≤ length (now file) ⌝ }
+    ensures { λ r. ⌜ Put (now (file .entry)) (now (file .exit)) at r (bytes 4 x) ⌝ }
+{
+    file[at] = (x / FOURTH) as u8;
+    file[at + 1] = (x / THIRD % SECOND) as u8;
+    file[at + 2] = (x / SECOND % SECOND) as u8;
+    file[at + 3] = (x % SECOND) as u8;
+    at + Width::WORD
+}
+
+pub fn put64(file: &mut [u8], at: usize, x: u64) -> usize
+    requires { ⌜ at + 8 ≤ length (now file) ⌝ }
+    ensures { λ r. ⌜ Put (now (file .entry)) (now (file .exit)) at r (bytes 8 x) ⌝ }
+{
+    let middle = put32(file, at, (x / FIFTH) as u32);
+    put32(file, middle, (x % FIFTH) as u32)
+}
+
+// The numbers of a table, one after the other.
+pub fn spell32(file: &mut [u8], at: usize, table: &[u32]) -> usize
+    requires { ⌜ at + 4 * length (now table) ≤ length (now file) ⌝ }
+    ensures { λ r. ⌜ Put (now (file .entry)) (now (file .exit)) at r (spelled 4 (now (table .entry))) ⌝ }
+{
+    let mut end = at;
+    let mut i: usize = 0;
+    while i < table.len() {
+        end = put32(file, end, table[i]);
+        i += 1;
+    }
+    end
+}
+
+pub fn spell64(file: &mut [u8], at: usize, table: &[u64]) -> usize
+    requires { ⌜ at + 8 * length (now table) ≤ length (now file) ⌝ }
+    ensures { λ r. ⌜ Put (now (file .entry)) (now (file .exit)) at r (spelled 8 (now (table .entry))) ⌝ }
+{
+    let mut end = at;
+    let mut i: usize = 0;
+    while i < table.len() {
+        end = put64(file, end, table[i]);
+        i += 1;
+    }
+    end
 }

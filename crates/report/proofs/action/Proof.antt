@@ -2,7 +2,7 @@
 use mathlib.Core.Path.{sym, ap}
 use native.Mathlib.Omega.{arith}
 use Rattle.report.specs.Text.{field}
-use Rattle.report.proofs.Putting.{put-then, put-same}
+use Rattle.walk.proofs.Putting.{put-then, put-same}
 use Rattle.report.proofs.Digits.{dashed-none, dashed-number}
 use borrow.Author.Needs.{needs}
 use Rattle.report.proofs.action.Statement.{statement}
@@ -12,8 +12,8 @@ returns : tie.Need-returns
 returns c =
     let dash = c .before .before in
     let blank = dash .before .before .before .before in (
-      put-same (put-then (blank .byte .ensures) (dash .byte2 .ensures)) (ap field (sym (dashed-none _ (blank .before .before .if1 .taken)))),
-      omega (arith, blank .byte .ensures .next, dash .byte2 .ensures .next),
+      put-same (put-then (blank .put8 .ensures) (dash .put82 .ensures)) (ap field (sym (dashed-none _ (blank .before .before .if1 .taken)))),
+      omega (arith, blank .put8 .ensures .next, dash .put82 .ensures .next),
     )
 
 returns-2 : tie.Need-returns-2

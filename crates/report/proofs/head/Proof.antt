@@ -3,7 +3,7 @@ use mathlib.Core.Path.{sym, ap, _∙_}
 use mathlib.Core.List.{append-assoc}
 use native.Mathlib.Omega.{arith}
 use Rattle.report.specs.Text.{line, headOf}
-use Rattle.report.proofs.Putting.{put-then, put-same}
+use Rattle.walk.proofs.Putting.{put-then, put-same}
 use borrow.Author.Needs.{needs}
 use Rattle.report.proofs.head.Statement.{statement}
 use Rattle.report.proofs.head.Tie as tie
@@ -14,8 +14,8 @@ returns c =
     let end = c .before .before in
     let first = end .before .before .before .before in
     let name = first .before .before .before .before in (
-      put-same (put-then (put-then (name .word .ensures) (first .spaced .ensures .0)) (end .byte .ensures)) ((simp append-assoc) ∙ sym (ap headOf (name .before .before .before .before .verdict .given .1))),
-      omega (arith, name .word .ensures .next, first .spaced .ensures .1, end .byte .ensures .next),
+      put-same (put-then (put-then (name .copy8 .ensures) (first .spaced .ensures .0)) (end .put8 .ensures)) ((simp append-assoc) ∙ sym (ap headOf (name .before .before .before .before .verdict .given .1))),
+      omega (arith, name .copy8 .ensures .next, first .spaced .ensures .1, end .put8 .ensures .next),
     )
 
 returns-2 : tie.Need-returns-2
@@ -25,8 +25,8 @@ returns-2 c =
     let second = end .before .before .before .before in
     let first = second .before .before .before .before in
     let name = first .before .before .before .before in (
-      put-same (put-then (put-then (put-then (name .word2 .ensures) (first .spaced2 .ensures .0)) (second .spaced3 .ensures .0)) (end .byte2 .ensures)) ((simp append-assoc) ∙ sym (ap headOf (name .before .before .before .before .verdict2 .given .1))),
-      omega (arith, name .word2 .ensures .next, first .spaced2 .ensures .1, second .spaced3 .ensures .1, end .byte2 .ensures .next),
+      put-same (put-then (put-then (put-then (name .copy82 .ensures) (first .spaced2 .ensures .0)) (second .spaced3 .ensures .0)) (end .put82 .ensures)) ((simp append-assoc) ∙ sym (ap headOf (name .before .before .before .before .verdict2 .given .1))),
+      omega (arith, name .copy82 .ensures .next, first .spaced2 .ensures .1, second .spaced3 .ensures .1, end .put82 .ensures .next),
     )
 
 returns-3 : tie.Need-returns-3
@@ -37,8 +37,8 @@ returns-3 c =
     let second = third .before .before .before .before in
     let first = second .before .before .before .before in
     let name = first .before .before .before .before in (
-      put-same (put-then (put-then (put-then (put-then (name .word3 .ensures) (first .spaced4 .ensures .0)) (second .spaced5 .ensures .0)) (third .action .ensures .0)) (end .byte3 .ensures)) ((simp append-assoc) ∙ sym (ap headOf (name .before .before .before .before .verdict3 .given .1))),
-      omega (arith, name .word3 .ensures .next, first .spaced4 .ensures .1, second .spaced5 .ensures .1, third .action .ensures .1, end .byte3 .ensures .next),
+      put-same (put-then (put-then (put-then (put-then (name .copy83 .ensures) (first .spaced4 .ensures .0)) (second .spaced5 .ensures .0)) (third .action .ensures .0)) (end .put83 .ensures)) ((simp append-assoc) ∙ sym (ap headOf (name .before .before .before .before .verdict3 .given .1))),
+      omega (arith, name .copy83 .ensures .next, first .spaced4 .ensures .1, second .spaced5 .ensures .1, third .action .ensures .1, end .put83 .ensures .next),
     )
 
 pub head-spec : {M : Type 1} → statement M

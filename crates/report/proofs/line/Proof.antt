@@ -2,7 +2,7 @@
 use mathlib.Core.List.{append-assoc}
 use native.Mathlib.Omega.{arith}
 use Rattle.report.specs.Text.{line, lineOf}
-use Rattle.report.proofs.Putting.{put-then, put-same}
+use Rattle.walk.proofs.Putting.{put-then, put-same}
 use Rattle.report.proofs.Digits.{short64}
 use borrow.Author.Needs.{needs}
 use Rattle.report.proofs.line.Statement.{statement}
@@ -19,8 +19,8 @@ action-requires c κs =
     let start = state .before .before .before in
     omega (arith, short64 (start .args .state) (start .fits .state), state .number .ensures .next)
 
-byte-requires : tie.Need-byte-requires
-byte-requires c κs =
+put8-requires : tie.Need-put8-requires
+put8-requires c κs =
     let choice = c .before .before .before in
     let state = choice .before .before .before .before in
     let start = state .before .before .before in
@@ -33,10 +33,10 @@ returns c =
     let choice = end .before .before .before .before in
     let state = choice .before .before .before .before in
     let start = state .before .before .before in (
-      put-same (put-then (put-then (state .number .ensures) (choice .action .ensures .0)) (end .byte .ensures)) (simp append-assoc),
-      omega (arith, short64 (start .args .state) (start .fits .state), state .number .ensures .next, choice .action .ensures .1, end .byte .ensures .next),
+      put-same (put-then (put-then (state .number .ensures) (choice .action .ensures .0)) (end .put8 .ensures)) (simp append-assoc),
+      omega (arith, short64 (start .args .state) (start .fits .state), state .number .ensures .next, choice .action .ensures .1, end .put8 .ensures .next),
     )
 
 pub line-spec : {M : Type 1} → statement M
 line-spec = tie.close
-    (tie.spec number-requires action-requires byte-requires (λ c. search needs) returns)
+    (tie.spec number-requires action-requires put8-requires (λ c. search needs) returns)

@@ -4,7 +4,8 @@ use lib.ListN.{length, getD}
 use borrow.Author.Needs.{needs}
 use native.Mathlib.Omega.{arith}
 use Rattle.report.specs.Text.{lineOf, linesOf}
-use Rattle.report.proofs.Putting.{Listing, list-start, list-pass, list-end, put-length}
+use Rattle.walk.proofs.Putting.{put-length}
+use Rattle.report.proofs.Listing.{Listing, list-start, list-pass, list-end}
 use Rattle.report.proofs.lines.Statement.{statement}
 use Rattle.report.proofs.lines.Tie as tie
 

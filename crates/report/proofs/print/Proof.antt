@@ -1,7 +1,7 @@
 -- `report::print` meets its contract: the verdict's line, and after acceptance the choices. Assumes nothing.
 use mathlib.Core.Path.{sym, _∙_}
 use native.Mathlib.Omega.{arith}
-use Rattle.report.proofs.Putting.{put-then, put-same, put-whole}
+use Rattle.walk.proofs.Putting.{put-then, put-same, put-whole}
 use Rattle.report.proofs.Digits.{text-accepted, text-alone}
 use borrow.Author.Needs.{needs}
 use Rattle.report.proofs.print.Statement.{statement}

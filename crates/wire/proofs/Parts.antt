@@ -1,0 +1,33 @@
+-- A number of four bytes is stored byte by byte, and one of eight is two of four. Assumes nothing.
+use mathlib.Core.Path.{_≡_, refl, ap, _∙_}
+use mathlib.Core.List.{List, [], _∷_, _++_}
+use Prim.Native.Nat.{ℕ, suc, _+_, _/_, _%_, _<_, _^_}
+use native.Mathlib.Omega.{arith}
+use lib.ListN.{length, set}
+use Rattle.walk.specs.Put.{Put}
+use Rattle.wire.specs.Words.{bytes}
+
+four : (x : ℕ) → x < 2 ^ 32 → bytes 4 x ≡ x / 16777216 ∷ x / 65536 % 256 ∷ x / 256 % 256 ∷ x % 256 ∷ []
+unfolding bytes
+four x h = let e : x / 16777216 % 256 ≡ x / 16777216 = omega arith in let f : x / 1 ≡ x = omega arith in rw (e, f)
+
+pub put-four : (t : List ℕ) (at x : ℕ) → x < 2 ^ 32
+    → Put t (set (set (set (set t at (x / 16777216)) (at + 1) (x / 65536 % 256)) (at + 2) (x / 256 % 256)) (at + 3) (x % 256)) at (at + 4) (bytes 4 x)
+put-four t at x h =
+    let a : at + 1 ≡ suc at = omega arith in
+    let b : at + 2 ≡ suc (suc at) = omega arith in
+    let c : at + 3 ≡ suc (suc (suc at)) = omega arith in
+    rw (four x h) (record { next = refl; text = rw (a, b, c) })
+
+pub eight : (x : ℕ) → bytes 8 x ≡ bytes 4 (x / 4294967296) ++ bytes 4 (x % 4294967296)
+unfolding bytes
+eight x =
+    let h0 : x / 72057594037927936 ≡ x / 4294967296 / 16777216 = omega arith in
+    let h1 : x / 281474976710656 ≡ x / 4294967296 / 65536 = omega arith in
+    let h2 : x / 1099511627776 ≡ x / 4294967296 / 256 = omega arith in
+    let o : (y : ℕ) → y / 1 ≡ y = λ y. omega arith in
+    let l0 : x % 4294967296 / 16777216 % 256 ≡ x / 16777216 % 256 = omega arith in
+    let l1 : x % 4294967296 / 65536 % 256 ≡ x / 65536 % 256 = omega arith in
+    let l2 : x % 4294967296 / 256 % 256 ≡ x / 256 % 256 = omega arith in
+    let l3 : x % 4294967296 % 256 ≡ x % 256 = omega arith in
+    rw (h0, h1, h2, o (x / 4294967296), o (x % 4294967296), o x, l0, l1, l2, l3)

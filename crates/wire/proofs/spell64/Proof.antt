@@ -1,0 +1,36 @@
+-- `wire::spell64` meets its contract: one number after the other. Assumes nothing.
+use Prim.Native.Nat.{_-_}
+use lib.ListN.{length}
+use borrow.Author.Needs.{needs}
+use native.Mathlib.Omega.{arith}
+use Rattle.walk.proofs.Putting.{put-length}
+use Rattle.wire.proofs.Spelled.{Spelling, spell-start, spell-pass, spell-end}
+use Rattle.wire.proofs.spell64.Statement.{statement}
+use Rattle.wire.proofs.spell64.Tie as tie
+
+abbrev Inv-loop : tie.InvT-loop
+Inv-loop file₀ at table end₀ i₀ file end i = Spelling 8 table file₀ at i end file
+
+abbrev μ-loop : tie.MeasureT-loop
+μ-loop file₀ at table end₀ i₀ file end i = length table - i
+
+loop-holds : tie.Need-loop-holds Inv-loop μ-loop
+loop-holds c = spell-start _ _ _ _
+
+put64-requires : tie.Need-put64-requires Inv-loop μ-loop
+put64-requires c κs = let w = c .before .before .before .loop .inv in omega (arith, put-length (w .put), w .place, c .before .before .loop-test .taken)
+
+loop-again : tie.Need-loop-again Inv-loop μ-loop
+loop-again c = spell-pass (c .before .before .before .before .before .before .loop .inv) (c .before .before .before .before .before .loop-test .taken) (c .before .before .put64 .ensures)
+
+same-length : tie.Need-same-length Inv-loop μ-loop
+same-length c = put-length (c .before .loop .inv .put)
+
+returns : tie.Need-returns Inv-loop μ-loop
+returns c = spell-end (c .before .loop .inv) (c .loop-test .left)
+
+pub spell64-spec : {M : Type 1} → statement M
+spell64-spec =
+    tie.close
+    (tie.spec Inv-loop μ-loop loop-holds (λ c. search needs) (λ c. search needs) put64-requires (λ c. search needs) (λ c. search needs) loop-again
+    same-length returns)
