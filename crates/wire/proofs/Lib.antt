@@ -2,3 +2,4 @@ pub mod Swap
 pub mod Fill
 pub mod First
 pub mod Spelled
+pub mod RoundTrip
