@@ -1,4 +1,3 @@
-pub mod Named
 pub mod Placed
 pub mod Judged
 pub mod Passed

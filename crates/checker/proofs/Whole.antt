@@ -41,9 +41,9 @@ pub at-most : (b : Bool) (n : ℕ) → entries b n ≤ n
 at-most true n = le-refl n
 at-most false n = zero-le
 
-module _ (k : Kind) (t : Model) (u : Claim) (choices : List ℕ) where
+module _ (k : Kind) (t : Model) (u : Claim) (chosen : ℕ) where
   abbrev sizes : Verdict
-  sizes = tried (sizesOf k (t .d) (u .c) (lengthsOf t u choices)) pass
+  sizes = tried (sizesOf k (t .d) (u .c) (lengthsOf t u chosen)) pass
 
   abbrev rows : Verdict
   rows = tried (rowTests t) pass
@@ -51,9 +51,9 @@ module _ (k : Kind) (t : Model) (u : Claim) (choices : List ℕ) where
   abbrev ranges : Verdict
   ranges = tried (rangesOf k (states t) (u .c) (u .costs) (u .claims) (u .ranks)) pass
 
-  pub sizes-right : T (accepts sizes) → Sized k t u choices
+  pub sizes-right : T (accepts sizes) → Sized k t u chosen
   unfolding sizeTests
-  sizes-right h = sized k t u choices (tried-all (sizeTests k t u choices) pass h)
+  sizes-right h = sized k t u chosen (tried-all (sizeTests k t u chosen) pass h)
 
   pub fitting : T (accepts sizes) → Fitting t
   fitting h =
@@ -76,38 +76,39 @@ module _ (k : Kind) (t : Model) (u : Claim) (choices : List ℕ) where
       )
 
   -- refusals 2 to 14, by which part stops
-  apart : tried (tests k t u choices) pass ≡ then sizes (then rows ranges)
+  apart : tried (tests k t u chosen) pass ≡ then sizes (then rows ranges)
   unfolding tests sizeTests rangeTests
   apart =
-      tried-append (sizeTests k t u choices) (rowTests t ++ rangeTests k t u) pass
-      ∙ ap (then (tried (sizeTests k t u choices) pass)) (tried-append (rowTests t) (rangeTests k t u) pass)
+      tried-append (sizeTests k t u chosen) (rowTests t ++ rangeTests k t u) pass
+      ∙ ap (then (tried (sizeTests k t u chosen) pass)) (tried-append (rowTests t) (rangeTests k t u) pass)
 
-  pub sizes-stop : accepts sizes ≡ false → sizes ≡ tried (tests k t u choices) pass
+  pub sizes-stop : accepts sizes ≡ false → sizes ≡ tried (tests k t u chosen) pass
   sizes-stop h = sym (apart ∙ then-stopped sizes (then rows ranges) h)
 
-  pub rows-stop : T (accepts sizes) → accepts rows ≡ false → rows ≡ tried (tests k t u choices) pass
+  pub rows-stop : T (accepts sizes) → accepts rows ≡ false → rows ≡ tried (tests k t u chosen) pass
   rows-stop p h = sym (apart ∙ then-passed sizes (then rows ranges) p ∙ then-stopped rows ranges h)
 
-  pub ranges-left : T (accepts sizes) → T (accepts rows) → ranges ≡ tried (tests k t u choices) pass
+  pub ranges-left : T (accepts sizes) → T (accepts rows) → ranges ≡ tried (tests k t u chosen) pass
   ranges-left p q = sym (apart ∙ then-passed sizes (then rows ranges) p ∙ then-passed rows ranges q)
 
+module _ (k : Kind) (t : Model) (u : Claim) (choices : List ℕ) where
   -- the verdict, by whether a refusal stands
-  pub refused : accepts (tried (tests k t u choices) pass) ≡ false → tried (tests k t u choices) pass ≡ verdictOf k t u choices
+  pub refused : accepts (tried (tests k t u (length choices)) pass) ≡ false → tried (tests k t u (length choices)) pass ≡ verdictOf k t u choices
   unfolding verdictOf
-  refused h = sym (tried-then (tests k t u choices) (conditions k t u) ∙ then-stopped (tried (tests k t u choices) pass) (conditions k t u) h)
+  refused h = sym (tried-then (tests k t u (length choices)) (conditions k t u) ∙ then-stopped (tried (tests k t u (length choices)) pass) (conditions k t u) h)
 
-  judged-on : T (accepts (tried (tests k t u choices) pass)) → conditions k t u ≡ verdictOf k t u choices
+  judged-on : T (accepts (tried (tests k t u (length choices)) pass)) → conditions k t u ≡ verdictOf k t u choices
   unfolding verdictOf
-  judged-on h = sym (tried-then (tests k t u choices) (conditions k t u) ∙ then-passed (tried (tests k t u choices) pass) (conditions k t u) h)
+  judged-on h = sym (tried-then (tests k t u (length choices)) (conditions k t u) ∙ then-passed (tried (tests k t u (length choices)) pass) (conditions k t u) h)
 
-  pub judged-kept : T (accepts (tried (tests k t u choices) pass)) → (v : Verdict) (after : List ℕ) → v ≡ conditions k t u → after
+  pub judged-kept : T (accepts (tried (tests k t u (length choices)) pass)) → (v : Verdict) (after : List ℕ) → v ≡ conditions k t u → after
       ≡ chosenOf k t u choices (conditions k t u)
       → (v ≡ verdictOf k t u choices) × (after ≡ chosenOf k t u choices (verdictOf k t u choices))
   judged-kept h v after p q = let e = judged-on h in (p ∙ e, q ∙ ap (chosenOf k t u choices) e)
 
-  pub ready : Columns k → T (accepts (tried (tests k t u choices) pass)) → Ready k t u
+  pub ready : Columns k → T (accepts (tried (tests k t u (length choices)) pass)) → Ready k t u
   ready col h =
-      let w = formed k t u choices (tried-all (tests k t u choices) pass h) in
+      let w = formed k t u (length choices) (tried-all (tests k t u (length choices)) pass h) in
       let s = w .sized in
       record {
         columns = col;
@@ -126,8 +127,8 @@ module _ (k : Kind) (t : Model) (u : Claim) (choices : List ℕ) where
         in-range = w .in-range;
       }
 
-  pub choices-long : T (accepts (tried (tests k t u choices) pass)) → length choices ≡ entries (k .choices) (states t)
-  choices-long h = formed k t u choices (tried-all (tests k t u choices) pass h) .sized .table9
+  pub choices-long : T (accepts (tried (tests k t u (length choices)) pass)) → length choices ≡ entries (k .choices) (states t)
+  choices-long h = formed k t u (length choices) (tried-all (tests k t u (length choices)) pass h) .sized .table9
 
   -- the choice list, by the verdict
   pub unchosen : (v : Verdict) → accepts v ≡ false → choices ≡ chosenOf k t u choices v
@@ -229,10 +230,11 @@ module _ (kind : ℕ) (t : Model) (u : Claim) (before after : List ℕ) where
       let f = sym (verdict-none (unnamed kind e)) in
       promise kind t u before _ after (answers (Refused 1 0) f) (q ∙ unchosen (kindOf kind) t u before (Refused 1 0) refl ∙ chooses (Refused 1 0) f)
 
-  pub known-refused : (v : Verdict) (k : Kind) → As k ≡ knownAs kind → v ≡ tried (tests k t u before) pass → v ≡ refusalOf kind t u before
+module _ (kind : ℕ) (t : Model) (u : Claim) (chosen : ℕ) where
+  pub known-refused : (v : Verdict) (k : Kind) → As k ≡ knownAs kind → v ≡ tried (tests k t u chosen) pass → v ≡ refusalOf kind t u chosen
   unfolding refusalOf then kindTest require
-  known-refused v k e p = let n = named k kind e in p ∙ ap (λ (x : Kind). tried (tests x t u before) pass) (n .1) ∙ rw (n .0)
+  known-refused v k e p = let n = named k kind e in p ∙ ap (λ (x : Kind). tried (tests x t u chosen) pass) (n .1) ∙ rw (n .0)
 
-  pub unknown-refused : Nothing ≡ knownAs kind → Refused 1 0 ≡ refusalOf kind t u before
+  pub unknown-refused : Nothing ≡ knownAs kind → Refused 1 0 ≡ refusalOf kind t u chosen
   unfolding refusalOf then kindTest require
   unknown-refused e = rw (unnamed kind e)

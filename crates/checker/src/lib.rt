@@ -31,7 +31,7 @@ fn copy(room: &[u32], choices: &mut [u32])
     }
 }
 
-// Refusals 2 to 14, in number order; accepted where none stands.
+// Refusals 2 to 14 with a choice list so long, in number order; accepted where none stands.
 fn refusals(
     kind: Kind,
     d: u32,
@@ -44,9 +44,9 @@ fn refusals(
     costs: &[u32],
     claims: &[u64],
     ranks: &[u32],
-    choices: &[u32],
+    chosen: usize,
 ) -> Verdict
-    ensures { λ r. ⌜ r ≡ tried (tests kind (modelOf d (now (marks .entry)) (now («action_starts» .entry)) (now («branch_starts» .entry)) (now (destinations .entry)) (now (weights .entry))) (claimOf c (now (costs .entry)) (now (claims .entry)) (now (ranks .entry))) (now (choices .entry))) pass ⌝ }
+    ensures { λ r. ⌜ r ≡ tried (tests kind (modelOf d (now (marks .entry)) (now («action_starts» .entry)) (now («branch_starts» .entry)) (now (destinations .entry)) (now (weights .entry))) (claimOf c (now (costs .entry)) (now (claims .entry)) (now (ranks .entry))) chosen) pass ⌝ }
 {
     let lengths = Lengths {
         table1: marks.len(),
@@ -57,7 +57,7 @@ fn refusals(
         table6: costs.len(),
         table7: claims.len(),
         table8: ranks.len(),
-        table9: choices.len(),
+        table9: chosen,
     };
     let v = sizes::sizes(kind, d, c, lengths);
     if !v.accepts() {
@@ -150,7 +150,7 @@ fn check_kind(
         costs,
         claims,
         ranks,
-        &choices[..],
+        choices.len(),
     );
     if !v.accepts() {
         return v;
@@ -217,7 +217,7 @@ pub fn check(
     }
 }
 
-// The refusal from 1 to 14 that stands over the lent tables, or a pass. It writes nothing.
+// The refusal from 1 to 14 that stands over the lent tables with a choice list so long, or a pass. It writes nothing.
 pub fn refuse(
     kind: u32,
     d: u32,
@@ -230,9 +230,9 @@ pub fn refuse(
     costs: &[u32],
     claims: &[u64],
     ranks: &[u32],
-    choices: &[u32],
+    chosen: usize,
 ) -> Verdict
-    ensures { λ r. ⌜ r ≡ refusalOf kind (modelOf d (now (marks .entry)) (now («action_starts» .entry)) (now («branch_starts» .entry)) (now (destinations .entry)) (now (weights .entry))) (claimOf c (now (costs .entry)) (now (claims .entry)) (now (ranks .entry))) (now (choices .entry)) ⌝ }
+    ensures { λ r. ⌜ r ≡ refusalOf kind (modelOf d (now (marks .entry)) (now («action_starts» .entry)) (now («branch_starts» .entry)) (now (destinations .entry)) (now (weights .entry))) (claimOf c (now (costs .entry)) (now (claims .entry)) (now (ranks .entry))) chosen ⌝ }
 {
     match model::kind_of(kind) {
         Known::As(k) => refusals(
@@ -247,7 +247,7 @@ pub fn refuse(
             costs,
             claims,
             ranks,
-            choices,
+            chosen,
         ),
         Known::Nothing => Verdict::Refused {
             number: Refusal::KIND,

@@ -22,8 +22,8 @@ use Rattle.model.proofs.Rising.{start-below}
 use Rattle.model.proofs.Kept.{suited, of-suited, fallen, of-fallen, asks, of-asks}
 
 -- an action that a state owns is one of the model's, and its rows are right
-pub owned-row : (k : Kind) (t : Model) (u : Claim) (choices : List ℕ) → WellFormed k t u choices → (s a : ℕ) → s < states t → Owns t s a → Row t a
-owned-row k t u choices w s a l o =
+pub owned-row : (k : Kind) (t : Model) (u : Claim) (chosen : ℕ) → WellFormed k t u chosen → (s a : ℕ) → s < states t → Owns t s a → Row t a
+owned-row k t u chosen w s a l o =
     w .counted .rows a (omega (arith, o .1, start-below (t .actionStarts) (actions t) (w .counted .action-starts) (s + 1) (omega (arith, w .sized .table2))))
 
 -- a is the lowest of the actions that s owns of which one thing holds: of all lower ones the other does

@@ -46,8 +46,8 @@ of-scale : (cost : Bool) (c : ℕ) → 1 ≤ c → c ≤ mostClaimScale → (cos
 of-scale true c p q r = eq→eqb c 1 (r refl)
 of-scale false c p q r = in-between 1 mostClaimScale c p q
 
-module _ (k : Kind) (t : Model) (u : Claim) (choices : List ℕ) where
-  pub sized : AllPass (sizeTests k t u choices) → Sized k t u choices
+module _ (k : Kind) (t : Model) (u : Claim) (chosen : ℕ) where
+  pub sized : AllPass (sizeTests k t u chosen) → Sized k t u chosen
   unfolding sizeTests modelLengths claimLengths weightScaleTest claimScaleTest statesTest lengthTest
   sized h =
       let d = require-right (between 1 mostWeightScale (t .d)) 2 0 (h .0) in
@@ -74,11 +74,11 @@ module _ (k : Kind) (t : Model) (u : Claim) (choices : List ℕ) where
         table7 = eqb→eq (length (u .claims)) (states t) (require-right (eqb (length (u .claims)) (states t)) 5 7 (l .1 .1 .1 .1 .1 .0));
         table8 = eqb→eq (length (u .ranks)) (entries (k .ranks) (states t))
             (require-right (eqb (length (u .ranks)) (entries (k .ranks) (states t))) 5 8 (l .1 .1 .1 .1 .1 .1 .0));
-        table9 = eqb→eq (length choices) (entries (k .choices) (states t))
-            (require-right (eqb (length choices) (entries (k .choices) (states t))) 5 9 (l .1 .1 .1 .1 .1 .1 .1 .0));
+        table9 = eqb→eq (chosen) (entries (k .choices) (states t))
+            (require-right (eqb (chosen) (entries (k .choices) (states t))) 5 9 (l .1 .1 .1 .1 .1 .1 .1 .0));
       }
 
-  pub of-sized : Sized k t u choices → AllPass (sizeTests k t u choices)
+  pub of-sized : Sized k t u chosen → AllPass (sizeTests k t u chosen)
   unfolding sizeTests modelLengths claimLengths weightScaleTest claimScaleTest statesTest lengthTest
   of-sized w = (
     passes-require (between 1 mostWeightScale (t .d)) 2 0 (in-between 1 mostWeightScale (t .d) (w .d-least) (w .d-most)),
@@ -105,8 +105,8 @@ module _ (k : Kind) (t : Model) (u : Claim) (choices : List ℕ) where
                       passes-require (eqb (length (u .ranks)) (entries (k .ranks) (states t))) 5 8
                           (eq→eqb (length (u .ranks)) (entries (k .ranks) (states t)) (w .table8)),
                       (
-                        passes-require (eqb (length choices) (entries (k .choices) (states t))) 5 9
-                            (eq→eqb (length choices) (entries (k .choices) (states t)) (w .table9)),
+                        passes-require (eqb (chosen) (entries (k .choices) (states t))) 5 9
+                            (eq→eqb (chosen) (entries (k .choices) (states t)) (w .table9)),
                         tt,
                       ),
                     ),
@@ -292,16 +292,16 @@ module _ (k : Kind) (t : Model) (u : Claim) where
     ),
   )
 
-  pub formed : (choices : List ℕ) → AllPass (tests k t u choices) → WellFormed k t u choices
+  pub formed : (chosen : ℕ) → AllPass (tests k t u chosen) → WellFormed k t u chosen
   unfolding tests
-  formed choices h =
-      let a = all-append (sizeTests k t u choices) (rowTests t ++ rangeTests k t u) h in
+  formed chosen h =
+      let a = all-append (sizeTests k t u chosen) (rowTests t ++ rangeTests k t u) h in
       let b = all-append (rowTests t) (rangeTests k t u) (a .1) in
-      let s = sized k t u choices (a .0) in
+      let s = sized k t u chosen (a .0) in
       record { sized = s; counted = counted t (omega (arith, s .table2)) (omega (arith, s .table3-least)) (b .0); in-range = in-range (b .1) }
 
-  pub of-formed : (choices : List ℕ) → WellFormed k t u choices → AllPass (tests k t u choices)
+  pub of-formed : (chosen : ℕ) → WellFormed k t u chosen → AllPass (tests k t u chosen)
   unfolding tests
-  of-formed choices w =
-      append-all (sizeTests k t u choices) (rowTests t ++ rangeTests k t u) (of-sized k t u choices (w .sized))
+  of-formed chosen w =
+      append-all (sizeTests k t u chosen) (rowTests t ++ rangeTests k t u) (of-sized k t u chosen (w .sized))
       (append-all (rowTests t) (rangeTests k t u) (of-counted t (w .counted)) (of-in-range (w .in-range)))

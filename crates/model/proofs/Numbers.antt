@@ -84,7 +84,7 @@ module _ (t : Model) where
     ),
   )
 
-module _ (k : Kind) (t : Model) (u : Claim) (choices : List ℕ) where
+module _ (k : Kind) (t : Model) (u : Claim) (chosen : ℕ) where
   scales-refuse : T (refuses (weightScaleTest (t .d))) × T (refuses (claimScaleTest k (u .c))) × T (refuses (statesTest (states t)))
   unfolding weightScaleTest claimScaleTest statesTest
   scales-refuse = (
@@ -93,7 +93,7 @@ module _ (k : Kind) (t : Model) (u : Claim) (choices : List ℕ) where
     require-refuses (between 1 mostStates (states t)) 4 0 tt,
   )
 
-  lengths-refuse : EachOf (λ v. T (refuses v)) (modelLengths (lengthsOf t u choices) ++ claimLengths k (lengthsOf t u choices))
+  lengths-refuse : EachOf (λ v. T (refuses v)) (modelLengths (lengthsOf t u chosen) ++ claimLengths k (lengthsOf t u chosen))
   unfolding modelLengths claimLengths
   lengths-refuse = (
     length-refuses 2 _,
@@ -113,11 +113,11 @@ module _ (k : Kind) (t : Model) (u : Claim) (choices : List ℕ) where
     ),
   )
 
-  pub tests-refuse : EachOf (λ v. T (refuses v)) (tests k t u choices)
+  pub tests-refuse : EachOf (λ v. T (refuses v)) (tests k t u chosen)
   unfolding tests sizeTests
   tests-refuse =
       let s = scales-refuse in
-      each-of-append (λ v. T (refuses v)) (sizeTests k t u choices) (rowTests t ++ rangeTests k t u) (s .0, (s .1, (s .2, lengths-refuse)))
+      each-of-append (λ v. T (refuses v)) (sizeTests k t u chosen) (rowTests t ++ rangeTests k t u) (s .0, (s .1, (s .2, lengths-refuse)))
       (each-of-append (λ v. T (refuses v)) (rowTests t) (rangeTests k t u) (rows-refuse t) ranges-refuse)
 
 -- the conditions
@@ -221,8 +221,8 @@ pub answer-proper : (kind : ℕ) (t : Model) (u : Claim) (choices : List ℕ) �
 unfolding answerOf verdictOf
 answer-proper kind t u choices =
     then-keeps (λ v. T (proper v)) (kindTest kind) (verdictOf (kindOf kind) t u choices) (refused-proper (kindTest kind) (kind-refuses kind))
-    (tried-keeps (λ v. T (proper v)) (tests (kindOf kind) t u choices) (conditions (kindOf kind) t u)
-    (each-of-map (λ v. T (refuses v)) (λ v. T (proper v)) refused-proper (tests (kindOf kind) t u choices) (tests-refuse (kindOf kind) t u choices))
+    (tried-keeps (λ v. T (proper v)) (tests (kindOf kind) t u (length choices)) (conditions (kindOf kind) t u)
+    (each-of-map (λ v. T (refuses v)) (λ v. T (proper v)) refused-proper (tests (kindOf kind) t u (length choices)) (tests-refuse (kindOf kind) t u (length choices)))
     (violated-proper (conditions (kindOf kind) t u) (conditions-violate (kindOf kind) t u)))
 
 -- document 01's number and values tell two proper verdicts apart

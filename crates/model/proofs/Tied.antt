@@ -32,14 +32,14 @@ use Rattle.model.proofs.Kept.{not-none, met, of-met}
 -- what acceptance with R rests on: the kind is one, the tables are well formed, every state meets its conditions
 pub record Deserved (kind : ℕ) (t : Model) (u : Claim) (choices : List ℕ) (R : ℕ) : Type 0 where
   pub known : T (isKind kind)
-  pub formed : WellFormed (kindOf kind) t u choices
+  pub formed : WellFormed (kindOf kind) t u (length choices)
   pub meets : (s : ℕ) → s < states t → Meets (kindOf kind) t u s
   pub greatest : R ≡ greatestRank (u .ranks)
 
 -- what a violation of x at state s rests on: all states before s meet their conditions, and s breaks x
 pub record Broken (kind : ℕ) (t : Model) (u : Claim) (choices : List ℕ) (x s a : ℕ) : Type 0 where
   pub known : T (isKind kind)
-  pub formed : WellFormed (kindOf kind) t u choices
+  pub formed : WellFormed (kindOf kind) t u (length choices)
   pub state : s < states t
   pub before : (i : ℕ) → i < s → Meets (kindOf kind) t u i
   pub broken : judged (kindOf kind) t u s ≡ Violated x s a
@@ -52,15 +52,15 @@ module _ (kind : ℕ) (t : Model) (u : Claim) (choices : List ℕ) where
       let k = kindOf kind in
       let a : T (accepts (then (kindTest kind) (verdictOf k t u choices))) = rw e tt in
       let v = then-second (kindTest kind) (verdictOf k t u choices) a in
-      let c = tried-last (tests k t u choices) (conditions k t u) v in
+      let c = tried-last (tests k t u (length choices)) (conditions k t u) v in
       let m : (s : ℕ) → 0 ≤ s → s < states t → T (accepts (judged k t u s)) = each-all (judged k t u) (states t) (Accepted (greatestRank (u .ranks))) 0 c in
       let r : Accepted R ≡ Accepted (greatestRank (u .ranks)) =
       sym e ∙ then-passed (kindTest kind) (verdictOf k t u choices) (then-first (kindTest kind) (verdictOf k t u choices) a)
-      ∙ tried-passed (tests k t u choices) (conditions k t u) (tried-all (tests k t u choices) (conditions k t u) v)
+      ∙ tried-passed (tests k t u (length choices)) (conditions k t u) (tried-all (tests k t u (length choices)) (conditions k t u) v)
       ∙ all-each (judged k t u) (states t) (Accepted (greatestRank (u .ranks))) 0 m in
       record {
         known = require-right (isKind kind) 1 0 (then-first (kindTest kind) (verdictOf k t u choices) a);
-        formed = formed k t u choices (tried-all (tests k t u choices) (conditions k t u) v);
+        formed = formed k t u (length choices) (tried-all (tests k t u (length choices)) (conditions k t u) v);
         meets = λ s l. met k t u s (m s zero-le l);
         greatest = (cc r);
       }
@@ -70,18 +70,18 @@ module _ (kind : ℕ) (t : Model) (u : Claim) (choices : List ℕ) where
   of-accepted R d =
       let k = kindOf kind in
       then-passed (kindTest kind) (verdictOf k t u choices) (passes-require (isKind kind) 1 0 (d .known))
-      ∙ tried-passed (tests k t u choices) (conditions k t u) (of-formed k t u choices (d .formed))
+      ∙ tried-passed (tests k t u (length choices)) (conditions k t u) (of-formed k t u (length choices) (d .formed))
       ∙ all-each (judged k t u) (states t) (Accepted (greatestRank (u .ranks))) 0 (λ s z l. rw (of-met k t u s (d .meets s l)) tt)
       ∙ ap Accepted (sym (d .greatest))
 
   -- no test of the tables is violated, and no condition is refused
 
-  never-violated : (x s a : ℕ) → First (kindTest kind ∷ tests (kindOf kind) t u choices) (Violated x s a) → ⊥
+  never-violated : (x s a : ℕ) → First (kindTest kind ∷ tests (kindOf kind) t u (length choices)) (Violated x s a) → ⊥
   unfolding refuses
   never-violated x s a f =
       rw (f .said) at
-      (each-of-at (λ v. T (refuses v)) tt (kindTest kind ∷ tests (kindOf kind) t u choices)
-      (kind-refuses kind, tests-refuse (kindOf kind) t u choices) (f .place))
+      (each-of-at (λ v. T (refuses v)) tt (kindTest kind ∷ tests (kindOf kind) t u (length choices))
+      (kind-refuses kind, tests-refuse (kindOf kind) t u (length choices)) (f .place))
 
   never-refused : (x p : ℕ) → conditions (kindOf kind) t u ≡ Refused x p → ⊥
   unfolding violates
@@ -93,19 +93,19 @@ module _ (kind : ℕ) (t : Model) (u : Claim) (choices : List ℕ) where
   violated x s a e = ⊎-elim
       (λ f. absurd (never-violated x s a f))
       (λ q. at (q .0) (each-first (judged k t u) (states t) (Accepted (greatestRank (u .ranks))) (Violated x s a) refl 0 (q .1)))
-      (tried-first (kindTest kind ∷ tests k t u choices) (conditions k t u) (Violated x s a) refl e)
+      (tried-first (kindTest kind ∷ tests k t u (length choices)) (conditions k t u) (Violated x s a) refl e)
     where
       k : Kind
       k = kindOf kind
 
-      at : AllPass (kindTest kind ∷ tests k t u choices)
+      at : AllPass (kindTest kind ∷ tests k t u (length choices))
           → FirstAt (judged k t u) 0 (states t) (Violated x s a) ⊎ (Accepted (greatestRank (u .ranks)) ≡ Violated x s a) → Broken kind t u choices x s a
       at all (inl f) =
           let v : T (isCondition x && eqb (f .place) s) = rw (f .said) at (judged-violates k t u (f .place)) in
           let p : f .place ≡ s = eqb→eq (f .place) s (and-right (isCondition x) (eqb (f .place) s) v) in
           record {
             known = require-right (isKind kind) 1 0 (all .0);
-            formed = formed k t u choices (all .1);
+            formed = formed k t u (length choices) (all .1);
             state = rw p at (f .high);
             before = λ i l. met k t u i (f .before i zero-le (rw p l));
             broken = rw p at (f .said);
@@ -117,19 +117,19 @@ module _ (kind : ℕ) (t : Model) (u : Claim) (choices : List ℕ) where
   of-violated x s a b =
       let k = kindOf kind in
       then-passed (kindTest kind) (verdictOf k t u choices) (passes-require (isKind kind) 1 0 (b .known))
-      ∙ tried-passed (tests k t u choices) (conditions k t u) (of-formed k t u choices (b .formed))
+      ∙ tried-passed (tests k t u (length choices)) (conditions k t u) (of-formed k t u (length choices) (b .formed))
       ∙ first-each (judged k t u) (states t) (Accepted (greatestRank (u .ranks))) (Violated x s a) refl 0
       (record { place = s; low = zero-le; high = b .state; said = b .broken; before = λ i z l. rw (of-met k t u i (b .before i l)) tt })
 
   -- refused exactly when that is what the first test that fails says, the kind's first
-  pub refused : (x p : ℕ) → answerOf kind t u choices .verdict ≡ Refused x p → First (kindTest kind ∷ tests (kindOf kind) t u choices) (Refused x p)
+  pub refused : (x p : ℕ) → answerOf kind t u choices .verdict ≡ Refused x p → First (kindTest kind ∷ tests (kindOf kind) t u (length choices)) (Refused x p)
   unfolding answerOf verdictOf tried
   refused x p e = ⊎-elim (λ f. f) (λ q. absurd (never-refused x p (q .1)))
-      (tried-first (kindTest kind ∷ tests (kindOf kind) t u choices) (conditions (kindOf kind) t u) (Refused x p) refl e)
+      (tried-first (kindTest kind ∷ tests (kindOf kind) t u (length choices)) (conditions (kindOf kind) t u) (Refused x p) refl e)
 
-  pub of-refused : (x p : ℕ) → First (kindTest kind ∷ tests (kindOf kind) t u choices) (Refused x p) → answerOf kind t u choices .verdict ≡ Refused x p
+  pub of-refused : (x p : ℕ) → First (kindTest kind ∷ tests (kindOf kind) t u (length choices)) (Refused x p) → answerOf kind t u choices .verdict ≡ Refused x p
   unfolding answerOf verdictOf tried
-  of-refused x p f = first-tried (kindTest kind ∷ tests (kindOf kind) t u choices) (conditions (kindOf kind) t u) (Refused x p) refl f
+  of-refused x p f = first-tried (kindTest kind ∷ tests (kindOf kind) t u (length choices)) (conditions (kindOf kind) t u) (Refused x p) refl f
 
 -- the choice list at exit: the choices on acceptance of a kind for "some" strategy, and else as it was lent
 module _ (kind : ℕ) (t : Model) (u : Claim) (choices : List ℕ) where

@@ -13,7 +13,7 @@ use Rattle.model.specs.Limits.{none}
 use Rattle.model.specs.Kinds.{kindOf}
 use Rattle.model.specs.Tables.{Model, Claim, states, target}
 use Rattle.model.specs.Answers.{pass, then, tried, each}
-use Rattle.model.specs.Refusals.{kindTest, tests}
+use Rattle.model.specs.Refusals.{choiceCount, kindTest, tests}
 use Rattle.model.specs.Conditions.{suits, falls, lowestAction, asksFall, judged}
 
 -- a rank that is not none, else 0
@@ -33,12 +33,17 @@ conditions k t u = each (judged k t u) 0 (states t) (Accepted (greatestRank (u .
 -- the verdict on a claim of kind k
 unfoldable pub verdictOf : Kind → Model → Claim → List ℕ → Verdict
 unfolding tried tests conditions
-verdictOf k t u choices = tried (tests k t u choices) (conditions k t u)
+verdictOf k t u choices = tried (tests k t u (length choices)) (conditions k t u)
 
--- the refusal from 1 to 14 that stands, or a pass
-unfoldable pub refusalOf : ℕ → Model → Claim → List ℕ → Verdict
+-- the refusal from 1 to 14 that stands with a choice list so long, or a pass
+unfoldable pub refusalOf : ℕ → Model → Claim → ℕ → Verdict
 unfolding then kindTest tried tests
-refusalOf kind t u choices = then (kindTest kind) (tried (tests (kindOf kind) t u choices) pass)
+refusalOf kind t u chosen = then (kindTest kind) (tried (tests (kindOf kind) t u chosen) pass)
+
+-- the choice list aside: as if it were as long as it should be
+unfoldable pub asideOf : ℕ → Model → Claim → Verdict
+unfolding refusalOf
+asideOf kind t u = refusalOf kind t u (choiceCount kind (states t))
 
 -- the answer: the kind's number as lent, and the verdict
 unfoldable pub answerOf : ℕ → Model → Claim → List ℕ → Answer

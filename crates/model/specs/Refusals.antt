@@ -9,7 +9,7 @@ use Rattle.model.specs.declared.answers.Verdict.{Verdict}
 use Rattle.model.specs.declared.kinds.Kind.{Kind}
 use Rattle.model.specs.declared.limits.Lengths.{Lengths}
 use Rattle.model.specs.Limits.{mostStates, mostActions, mostBranches, mostWeightScale, mostClaimScale, mostCost, mostCostClaim, none}
-use Rattle.model.specs.Kinds.{isCost, isKind}
+use Rattle.model.specs.Kinds.{isCost, isKind, kindOf}
 use Rattle.model.specs.Tables.{Model, Claim, states, actions, branches, firstBranch, destination, weight, scale}
 use Rattle.model.specs.Answers.{pass, tried, each, require, throughout}
 
@@ -49,9 +49,13 @@ lengthTest table right = require right 5 table
 abbrev pub entries : Bool → ℕ → ℕ
 entries has n = cond has n 0
 
--- the lengths of tables 1 to 9
-abbrev pub lengthsOf : Model → Claim → List ℕ → Lengths
-lengthsOf t u choices =
+-- the entries of the choice list
+abbrev pub choiceCount : ℕ → ℕ → ℕ
+choiceCount kind n = entries (kindOf kind .choices) n
+
+-- the lengths of tables 1 to 8 and of the choice list
+abbrev pub lengthsOf : Model → Claim → ℕ → Lengths
+lengthsOf t u chosen =
     record {
       table1 = length (t .marks);
       table2 = length (t .actionStarts);
@@ -61,7 +65,7 @@ lengthsOf t u choices =
       table6 = length (u .costs);
       table7 = length (u .claims);
       table8 = length (u .ranks);
-      table9 = length choices;
+      table9 = chosen;
     }
 
 -- tables 2 to 5, by n, m and b; and tables 6 to 9, by n and the kind
@@ -158,9 +162,9 @@ ranksTest n ranks = throughout (λ s. rankRight n (getD ranks s 0)) (length rank
 unfoldable pub sizesOf : Kind → ℕ → ℕ → Lengths → List Verdict
 sizesOf k d c l = weightScaleTest d ∷ claimScaleTest k c ∷ statesTest (l .table1) ∷ (modelLengths l ++ claimLengths k l)
 
-unfoldable pub sizeTests : Kind → Model → Claim → List ℕ → List Verdict
+unfoldable pub sizeTests : Kind → Model → Claim → ℕ → List Verdict
 unfolding sizesOf
-sizeTests k t u choices = sizesOf k (t .d) (u .c) (lengthsOf t u choices)
+sizeTests k t u chosen = sizesOf k (t .d) (u .c) (lengthsOf t u chosen)
 
 -- 12 to 14: costs, claims and ranks in their ranges
 unfoldable pub rangesOf : Kind → ℕ → ℕ → List ℕ → List ℕ → List ℕ → List Verdict
@@ -170,6 +174,6 @@ unfoldable pub rangeTests : Kind → Model → Claim → List Verdict
 unfolding rangesOf
 rangeTests k t u = rangesOf k (states t) (u .c) (u .costs) (u .claims) (u .ranks)
 
--- the refusals 2 to 14 of a claim of kind k, in number order
-unfoldable pub tests : Kind → Model → Claim → List ℕ → List Verdict
-tests k t u choices = sizeTests k t u choices ++ (rowTests t ++ rangeTests k t u)
+-- the refusals 2 to 14 of a claim of kind k with a choice list so long, in number order
+unfoldable pub tests : Kind → Model → Claim → ℕ → List Verdict
+tests k t u chosen = sizeTests k t u chosen ++ (rowTests t ++ rangeTests k t u)

@@ -13,7 +13,7 @@ use Rattle.model.specs.Tables.{Model, Claim, states, actions, branches, 
 use Rattle.model.specs.Refusals.{entries, limitOf}
 
 -- 2 to 5: scales, counts and lengths are right
-pub record Sized (k : Kind) (t : Model) (u : Claim) (choices : List ℕ) : Type 0 where
+pub record Sized (k : Kind) (t : Model) (u : Claim) (chosen : ℕ) : Type 0 where
   pub d-least : 1 ≤ t .d
   pub d-most : t .d ≤ mostWeightScale
   pub c-least : 1 ≤ u .c
@@ -29,7 +29,7 @@ pub record Sized (k : Kind) (t : Model) (u : Claim) (choices : List ℕ) : Type 
   pub table6 : length (u .costs) ≡ entries (k .costs) (states t)
   pub table7 : length (u .claims) ≡ states t
   pub table8 : length (u .ranks) ≡ entries (k .ranks) (states t)
-  pub table9 : length choices ≡ entries (k .choices) (states t)
+  pub table9 : chosen ≡ entries (k .choices) (states t)
 
 -- the starts of a table begin at 0, rise strictly and end at the end
 pub record Starts (starts : List ℕ) (end : ℕ) : Type 0 where
@@ -57,7 +57,7 @@ pub record InRange (k : Kind) (t : Model) (u : Claim) : Type 0 where
   pub claims : (s : ℕ) → s < length (u .claims) → claim u s ≤ limitOf k (u .c)
   pub ranks : (s : ℕ) → s < length (u .ranks) → (rank u s < states t) ⊎ (rank u s ≡ none)
 
-pub record WellFormed (k : Kind) (t : Model) (u : Claim) (choices : List ℕ) : Type 0 where
-  pub sized : Sized k t u choices
+pub record WellFormed (k : Kind) (t : Model) (u : Claim) (chosen : ℕ) : Type 0 where
+  pub sized : Sized k t u chosen
   pub counted : Counted t
   pub in-range : InRange k t u

@@ -1,6 +1,7 @@
 // The eight kinds of claim, and what each needs, in one fixed table.
 ghost use mathlib.Core.Path.{_≡_};
 ghost use Rattle.model.specs.Kinds.{isCost, isAtLeast, isSome, knownAs};
+ghost use Rattle.model.specs.Refusals.{choiceCount};
 
 pub enum Measure {
     Arrival,
@@ -149,4 +150,14 @@ pub fn kind_of(number: u32) -> Known
     }
     let row = (number - 1) as usize;
     Known::As(Kind::TABLE[row])
+}
+
+// The entries of the choice list: one for each state, where the kind writes choices.
+pub fn choice_count(kind: u32, n: usize) -> usize
+    ensures { λ r. ⌜ r ≡ choiceCount kind n ⌝ }
+{
+    match kind_of(kind) {
+        Known::As(k) => { if k.choices { n } else { 0 } }
+        Known::Nothing => 0,
+    }
 }

@@ -13,6 +13,7 @@ pub use kinds::Kind;
 pub use kinds::Known;
 pub use kinds::Measure;
 pub use kinds::Who;
+pub use kinds::choice_count;
 pub use kinds::kind_of;
 pub use limits::Claim;
 pub use limits::Cost;

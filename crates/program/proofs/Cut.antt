@@ -9,7 +9,7 @@ use lib.ListN.{length, getD, take, drop, length-append, length-drop}
 use lib.Seq.{length-take-le, length-front, take-at}
 use borrow.Author.Tests.{lt-ltb, le-ltb}
 use Rattle.walk.proofs.Fold as Fold
-use Rattle.model.specs.Refusals.{entries}
+use Rattle.model.specs.Refusals.{entries, choiceCount}
 use Rattle.model.specs.Kinds.{kindOf}
 use Rattle.model.specs.Tables.{Model, Claim, modelOf, claimOf}
 use Rattle.model.specs.declared.answers.Answer.{Answer}
@@ -26,7 +26,7 @@ use Rattle.certfile.specs.File.{announced, outcomeOf, tableOf}
 use Rattle.certfile.specs.Layout.{countsOf, tablePlace}
 use Rattle.certfile.specs.Tables.{Tables, lent, ReadInto}
 use Rattle.certfile.proofs.Passed.{ready}
-use Rattle.program.specs.Printed.{tableIn, modelIn, claimIn, cut, modelCut, claimCut, choiceCount, checkedText, readText, refusedText, printedOf, mostBytes, room, blank}
+use Rattle.program.specs.Printed.{tableIn, modelIn, claimIn, cut, modelCut, claimCut, checkedText, readText, refusedText, printedOf, mostBytes, room, blank}
 use Rattle.program.specs.Shows.{Shows, Enough}
 
 -- each part that is cut has the length that is asked

@@ -18,7 +18,8 @@ use Rattle.certfile.specs.File.{announced, outcomeOf, tableOf}
 use Rattle.certfile.specs.Layout.{tablePlace}
 use Rattle.certfile.specs.Tables.{Tables, lent, ReadInto}
 use Rattle.certfile.proofs.Passed.{ready}
-use Rattle.program.specs.Printed.{tableIn, modelIn, claimIn, cut, modelCut, claimCut, choiceCount, checkedText, readText, refusedText, printedOf, mostBytes, room, blank}
+use Rattle.model.specs.Refusals.{choiceCount}
+use Rattle.program.specs.Printed.{tableIn, modelIn, claimIn, cut, modelCut, claimCut, checkedText, readText, refusedText, printedOf, mostBytes, room, blank}
 use Rattle.program.specs.Shows.{Shows, Enough}
 
 -- a block has as many numbers as it counts

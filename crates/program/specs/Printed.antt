@@ -5,8 +5,7 @@ use mathlib.Core.List.{List, [], _∷_}
 use lib.Dec.{ltb}
 use lib.ListN.{length, take, replicate}
 use Rattle.model.specs.declared.answers.Verdict.the-variants.{Refused as Refuses}
-use Rattle.model.specs.Kinds.{kindOf}
-use Rattle.model.specs.Refusals.{entries}
+use Rattle.model.specs.Refusals.{choiceCount}
 use Rattle.model.specs.Tables.{Model, Claim, modelOf, claimOf}
 use Rattle.model.specs.Checked.{answerOf, choicesOf}
 use Rattle.wire.specs.Blocks.{block, numbers}
@@ -39,10 +38,6 @@ modelIn h file = modelOf (h .d) (tableIn h file 1) (tableIn h file 2) (tableIn h
 
 abbrev pub claimIn : Header → List ℕ → Claim
 claimIn h file = claimOf (h .c) (tableIn h file 6) (tableIn h file 7) (tableIn h file 8)
-
--- the entries of the choice list
-abbrev pub choiceCount : ℕ → ℕ → ℕ
-choiceCount kind n = entries (kindOf kind .choices) n
 
 -- what is printed for a refusal, and for tables that are checked
 unfoldable pub refusedText : ℕ → ℕ → List ℕ

@@ -4,12 +4,12 @@ ghost use Prim.Native.Nat.{_+_, _*_, _≤_};
 ghost use lib.ListN.{length, take};
 ghost use Rattle.certfile.specs.File.{outcomeOf};
 ghost use Rattle.certfile.specs.Tables.{tables, lent};
-ghost use Rattle.program.specs.Printed.{choiceCount, refusedText, checkedText, modelCut, claimCut, readText, printedOf};
+ghost use Rattle.model.specs.Refusals.{choiceCount};
+ghost use Rattle.program.specs.Printed.{refusedText, checkedText, modelCut, claimCut, readText, printedOf};
 ghost use Rattle.program.specs.Shows.{Shows, Enough};
 use certfile::FileRefusal;
 use certfile::Header;
 use certfile::Outcome;
-use model::Known;
 use model::Verdict;
 use report::Longest;
 use wire::Width;
@@ -38,16 +38,6 @@ impl Room {
         + Room::BRANCHES * (Width::WORD + Width::WORD);
 
     pub const TEXT: usize = Longest::VERDICT + Room::STATES * Longest::CHOICE;
-}
-
-// The entries of the choice list: one for each state, where the kind writes choices.
-fn choice_count(kind: u32, n: usize) -> usize
-    ensures { λ r. ⌜ r ≡ choiceCount kind n ⌝ }
-{
-    match model::kind_of(kind) {
-        Known::As(k) => { if k.choices { n } else { 0 } }
-        Known::Nothing => 0,
-    }
 }
 
 // Prints a refusal.
@@ -87,7 +77,7 @@ fn judged(
     let costly = count.costs;
     let claimed = count.claims;
     let ranked = count.ranks;
-    let chosen = choice_count(h.kind, n);
+    let chosen = model::choice_count(h.kind, n);
     let answer = checker::check(
         h.kind,
         h.d,

@@ -61,8 +61,8 @@ in-whole Cost c r most largest l h = h
 entries-of : (b : Bool) (n : ℕ) → b ≡ true → entries b n ≡ n
 entries-of b n e = rw e
 
-module _ (k : Kind) (t : Model) (u : Claim) (choices : List ℕ)
-    (columns : Columns k) (formed : WellFormed k t u choices) (meets : (s : ℕ) → s < states t → Meets k t u s) where
+module _ (k : Kind) (t : Model) (u : Claim) (chosen : ℕ)
+    (columns : Columns k) (formed : WellFormed k t u chosen) (meets : (s : ℕ) → s < states t → Meets k t u s) where
   abbrev Within : ℕ → Type 0
   Within s = s < states t
 
@@ -71,7 +71,7 @@ module _ (k : Kind) (t : Model) (u : Claim) (choices : List ℕ)
   keeps s a w e = fits k t u s e (meets s w) a
 
   rows : (s a : ℕ) → Within s → target t s ≡ false → Allowed (k .who) k t u s a → Row t a
-  rows s a w e o = owned-row k t u choices formed s a w (keeps s a w e o .owned)
+  rows s a w e o = owned-row k t u chosen formed s a w (keeps s a w e o .owned)
 
   closed : conditions.Closed (processOf k t u) Within (Allowed (k .who) k t u)
   unfolding processOf
@@ -153,4 +153,4 @@ pub demand3 : (kind : ℕ) (t : Model) (u : Claim) (choices : List ℕ) (R : ℕ
 demand3 kind t u choices R e =
     let d = accepted kind t u choices R e in
     rw (d .greatest)
-    (holds-so (kindOf kind) t u choices (columns kind) (d .formed) (d .meets) (choicesOf kind t u choices) (written kind t u choices R e))
+    (holds-so (kindOf kind) t u (length choices) (columns kind) (d .formed) (d .meets) (choicesOf kind t u choices) (written kind t u choices R e))

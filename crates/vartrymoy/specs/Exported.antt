@@ -24,7 +24,7 @@ unfolding answerOf refusalOf then
 numberOf kind t u choices answer =
     cond (eqb (length answer) 4)
     (number (answerOf kind t u choices .verdict))
-    (number (then (refusalOf kind t u choices) (Refused 5 0)))
+    (number (then (refusalOf kind t u (length choices)) (Refused 5 0)))
 
 -- the check as exported: an answer list that is not 4 long is left alone, and so is the choice list then
 pub record CheckedInto (kind : ℕ) (t : Model) (u : Claim) (before answer-before : List ℕ) (r : ℕ) (after answer-after : List ℕ) : Type 0 where

@@ -112,7 +112,7 @@ pub extern "C" fn vartrymoy_check(
             costs,
             claims,
             ranks,
-            &choices[..],
+            choices.len(),
         ));
     }
     put(

@@ -3,3 +3,4 @@ pub mod Fill
 pub mod First
 pub mod Spelled
 pub mod Parts
+pub mod RoundTrip

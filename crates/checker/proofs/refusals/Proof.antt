@@ -21,7 +21,7 @@ u c = claimOf (c .args .c) (c .args .costs .now) (c .args .claims .now) (c .args
 -- the sizes passed
 sized : (c : tie.Else1)
     → let s = c .before .before .before .before .before .before .before .before .before .before .before .before in T
-    (accepts (tried (sizesOf (s .args .kind) (s .args .d) (s .args .c) (lengthsOf (t s) (u s) (s .args .choices .now))) pass))
+    (accepts (tried (sizesOf (s .args .kind) (s .args .d) (s .args .c) (lengthsOf (t s) (u s) (s .args .chosen))) pass))
 sized c = goes (c .before .accepts .ensures) (c .if1 .left) (c .before .before .sizes .ensures)
 
 returns : tie.Need-returns
@@ -33,7 +33,7 @@ returns c =
 count-requires : tie.Need-count-requires
 count-requires c κs =
     let b = c .before .before .before .before .before .before .before .before .before .before .before .before in
-    fitting _ (t b) (u b) (b .args .choices .now) (sized c)
+    fitting _ (t b) (u b) (b .args .chosen) (sized c)
 
 returns-2 : tie.Need-returns-2
 returns-2 c =
@@ -44,7 +44,7 @@ returns-2 c =
 ranges-requires : tie.Need-ranges-requires
 ranges-requires c κs =
     let b = c .before .before .before .before .before .before .before .before .before .before .before .before .before .before .before in
-    short _ (t b) (u b) (b .args .choices .now) (sized (c .before .before .before))
+    short _ (t b) (u b) (b .args .chosen) (sized (c .before .before .before))
 
 returns-3 : tie.Need-returns-3
 returns-3 c =

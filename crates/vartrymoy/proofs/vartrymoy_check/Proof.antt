@@ -17,7 +17,7 @@ use Rattle.vartrymoy.proofs.vartrymoy_check.Statement.{statement}
 use Rattle.vartrymoy.proofs.vartrymoy_check.Tie as tie
 
 module _ (kind : ℕ) (t : Model) (u : Claim) (before answer : List ℕ) where
-  shut : (length answer ≡ 4 → ⊥) → (v : Verdict) (r : ℕ) → v ≡ refusalOf kind t u before → r ≡ number (then v (Refused 5 0))
+  shut : (length answer ≡ 4 → ⊥) → (v : Verdict) (r : ℕ) → v ≡ refusalOf kind t u (length before) → r ≡ number (then v (Refused 5 0))
       → CheckedInto kind t u before answer r before answer
   unfolding numberOf
   shut n v r e f =

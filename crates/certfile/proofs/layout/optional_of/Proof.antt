@@ -2,7 +2,7 @@
 use mathlib.Core.Path.{sym, ap, _∙_}
 use borrow.Author.Needs.{needs}
 use Rattle.model.specs.declared.kinds.Kind.{Kind}
-use Rattle.certfile.proofs.Named.{named, unnamed, neither}
+use Rattle.model.proofs.Known.{named, unnamed, neither}
 use Rattle.certfile.proofs.layout.optional_of.Statement.{statement}
 use Rattle.certfile.proofs.layout.optional_of.Tie as tie
 

@@ -1,12 +1,12 @@
--- `program::choice_count` meets its contract. Assumes nothing.
+-- `model::kinds::choice_count` meets its contract. Assumes nothing.
 use mathlib.Core.Path.{sym, ap, _∙_}
 use mathlib.Core.Bool.{Bool}
 use Rattle.model.specs.declared.kinds.Kind.{Kind}
 use Rattle.model.specs.Refusals.{entries}
-use Rattle.certfile.proofs.Named.{named, unnamed, as-first}
+use Rattle.model.proofs.Known.{named, unnamed, as-first}
 use borrow.Author.Needs.{needs}
-use Rattle.program.proofs.choice_count.Statement.{statement}
-use Rattle.program.proofs.choice_count.Tie as tie
+use Rattle.model.proofs.kinds.choice_count.Statement.{statement}
+use Rattle.model.proofs.kinds.choice_count.Tie as tie
 
 returns : tie.Need-returns
 returns c =
