@@ -1,7 +1,7 @@
 //! The small models of document 01.
 
-use independent::check::{check, Verdict, NONE};
-use independent::file::Certificate;
+use independent::check::{check, Refusal, Verdict, NONE};
+use independent::file::{write_into, Certificate};
 use independent::kind::Kind;
 
 /// Stands in choice lists that must be left alone.
@@ -79,4 +79,21 @@ pub fn checked_with_choices(claim: &Certificate, length: usize) -> (Verdict, Vec
         &mut choices,
     );
     (verdict, choices)
+}
+
+pub fn written(claim: &Certificate, buffer: &mut [u8]) -> Result<usize, Refusal> {
+    write_into(
+        claim.kind,
+        claim.d,
+        claim.c,
+        &claim.marks,
+        &claim.action_starts,
+        &claim.branch_starts,
+        &claim.destinations,
+        &claim.weights,
+        &claim.costs,
+        &claim.claims,
+        &claim.ranks,
+        buffer,
+    )
 }
