@@ -6,6 +6,8 @@ use independent::kind::Kind;
 
 /// Stands in choice lists that must be left alone.
 pub const UNTOUCHED: u32 = 77;
+/// Stands in tables and buffers before they are lent.
+pub const FILLING: u8 = 0xee;
 
 pub fn model_a(kind: u32, claims: [u64; 3], ranks: &[u32]) -> Certificate {
     let cost = Kind::numbered(kind).is_some_and(|kind| kind.cost);

@@ -1,12 +1,10 @@
 //! Writing files into a lent buffer.
 
-use crate::models::{checked_with_choices, held, model_a, written};
+use crate::models::{checked_with_choices, held, model_a, written, FILLING};
 use independent::check::{Refusal, Verdict, NONE};
 use independent::file::write;
 use independent::program::{answer, MAX_INPUT};
 use independent::rewrite::{rewrite, Rewritten};
-
-const FILLING: u8 = 0xee;
 
 #[test]
 fn the_length_of_a_file_is_given() {
