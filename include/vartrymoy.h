@@ -1,4 +1,5 @@
-/* Vartrymoy: judges claims about finite Markov decision processes.
+/* Vartrymoy: judges claims about finite Markov decision processes, and reads
+ * and writes their files.
  *
  * Each table is a pointer and its number of entries. A pointer must not be
  * null, also for a table with no entries, and the entries behind it must be
@@ -18,9 +19,10 @@ extern "C" {
 /* "None", as a rank, as a choice and as an action. */
 #define VARTRYMOY_NONE 4294967295u
 
-/* Entries of `answer` and of `header`. */
+/* Entries of `answer`, of `header` and of `result`. */
 #define VARTRYMOY_ANSWER_LEN 4
 #define VARTRYMOY_HEADER_LEN 6
+#define VARTRYMOY_WRITTEN_LEN 2
 
 /* Judges the claim that the tables make. Returns 0 for accepted, 21 to 24 for
  * a violated condition, 1 to 14 for tables that are refused.
@@ -69,6 +71,33 @@ uint32_t vartrymoy_read(
     uint32_t *costs, size_t costs_len,
     uint64_t *claims, size_t claims_len,
     uint32_t *ranks, size_t ranks_len);
+
+/* Writes the tables as a certificate file. Returns 0, or the number of the
+ * refusal: 1 to 14 as vartrymoy_check gives them, with no choice list looked
+ * at; then 35 for a `buffer` that is shorter than the file; then 5 for a
+ * `result` whose length is not 2. Whether the claim holds is not judged.
+ *
+ * Written:
+ * buffer   only when 0 comes back: the file, at the front. The rest stays. No
+ *          file is longer than 8,820,034 bytes.
+ * result   the number returned; then the length of the file (0) or the place
+ *          of the refusal. With a length that is not 2 nothing at all is
+ *          written.
+ *
+ * costs has entries for kinds 5 to 8, ranks for kinds 2, 4, 7 and 8; elsewhere
+ * their length is 0. */
+uint32_t vartrymoy_write(
+    uint32_t kind, uint32_t d, uint32_t c,
+    const uint8_t *marks, size_t marks_len,
+    const uint32_t *action_starts, size_t action_starts_len,
+    const uint32_t *branch_starts, size_t branch_starts_len,
+    const uint32_t *destinations, size_t destinations_len,
+    const uint32_t *weights, size_t weights_len,
+    const uint32_t *costs, size_t costs_len,
+    const uint64_t *claims, size_t claims_len,
+    const uint32_t *ranks, size_t ranks_len,
+    uint8_t *buffer, size_t buffer_len,
+    uint64_t *result, size_t result_len);
 
 #ifdef __cplusplus
 }

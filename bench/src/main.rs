@@ -8,7 +8,7 @@ use std::hint::black_box;
 use std::io::{self, BufRead};
 use std::time::Instant;
 
-use independent::check::{check, Verdict};
+use independent::check::{check, Refusal, Verdict};
 use independent::file;
 
 include!(concat!(env!("OUT_DIR"), "/padding.rs"));
@@ -43,6 +43,7 @@ fn measure() {
     let rows_only = tables::rows_only(MOST_BRANCHES);
     report("2 rows alone", MOST_BRANCHES, checked(&rows_only, 13));
     report("3 file read", MOST_BRANCHES, read());
+    report("3 file write", MOST_BRANCHES, write());
     for kind in 1..=2 {
         for branches in [10_000, 100_000, MOST_BRANCHES] {
             let label = format!("4 kind {kind}, {branches:7} branches");
@@ -117,6 +118,27 @@ fn read() -> [f64; 2] {
     );
     assert!(first == written && second == written);
     times
+}
+
+fn write() -> [f64; 2] {
+    let t = tables::accepted(1, MOST_BRANCHES);
+    let file = file::write(&t);
+    let (mut first, mut second) = (vec![0; file.len()], vec![0; file.len()]);
+    let (mut ours, mut theirs) = ([0; 2], Ok(0));
+    let times = best(
+        || ours = ours::write(black_box(&t), &mut first),
+        || theirs = independent_write(black_box(&t), &mut second),
+    );
+    assert_eq!(ours, [0, file.len() as u64]);
+    assert_eq!(theirs, Ok(file.len()));
+    assert!(first == file && second == file);
+    times
+}
+
+#[rustfmt::skip]
+fn independent_write(t: &file::Certificate, buffer: &mut [u8]) -> Result<usize, Refusal> {
+    file::write_into(t.kind, t.d, t.c, &t.marks, &t.action_starts, &t.branch_starts, &t.destinations, &t.weights,
+        &t.costs, &t.claims, &t.ranks, buffer)
 }
 
 /// The means over all placements that were measured.

@@ -1,10 +1,11 @@
-/* Reads a certificate file and judges its claim: read CERTIFICATE */
+/* Reads a certificate file, judges its claim and writes the file anew: read CERTIFICATE */
 #include <stdio.h>
+#include <string.h>
 #include "vartrymoy.h"
 
 enum { STATES = 20000, ACTIONS = 100000, BRANCHES = 1000000, BYTES = 9000000 };
 
-static uint8_t file[BYTES], marks[STATES];
+static uint8_t file[BYTES], written[BYTES], marks[STATES];
 static uint32_t action_starts[STATES + 1], branch_starts[ACTIONS + 1];
 static uint32_t destinations[BRANCHES], weights[BRANCHES];
 static uint32_t costs[STATES], ranks[STATES], choices[STATES];
@@ -23,6 +24,7 @@ int main(int argc, char **argv)
 {
     uint32_t header[VARTRYMOY_HEADER_LEN], answer[VARTRYMOY_ANSWER_LEN], number;
     uint32_t kind, n, m, b;
+    uint64_t result[VARTRYMOY_WRITTEN_LEN];
     size_t length, costs_len, ranks_len, choices_len;
     FILE *in = argc == 2 ? fopen(argv[1], "rb") : NULL;
     if (in == NULL) {
@@ -51,5 +53,13 @@ int main(int argc, char **argv)
     print("answer", answer, VARTRYMOY_ANSWER_LEN);
     if (number == 0)
         print("choices", choices, choices_len);
+
+    number = vartrymoy_write(kind, header[1], header[2], marks, n,
+        action_starts, (size_t)n + 1, branch_starts, (size_t)m + 1,
+        destinations, b, weights, b, costs, costs_len, claims, n,
+        ranks, ranks_len, written, length, result, VARTRYMOY_WRITTEN_LEN);
+    printf("written %lu %lu\n", (unsigned long)result[0], (unsigned long)result[1]);
+    if (number == 0)
+        puts(result[1] == length && memcmp(written, file, length) == 0 ? "same bytes" : "other bytes");
     return 0;
 }

@@ -1,4 +1,4 @@
-"""Reads a certificate file and judges its claim: read.py LIBRARY CERTIFICATE"""
+"""Reads a certificate file, judges its claim and writes the file anew: read.py LIBRARY CERTIFICATE"""
 import ctypes
 import sys
 
@@ -23,29 +23,50 @@ def read(library, file):
     return number, header, tables
 
 
-def check(library, header, tables):
-    """The answer in four numbers, and the choices, empty if there are none."""
+def claimed(header):
+    """The kind and the scales, and how many entries tables 1 to 8 have."""
     kind, d, c, n, m, b = header
     costs = n if kind >= 5 else 0
     ranks = n if kind in (2, 4, 7, 8) else 0
-    choices = (U32 * (n if kind in (3, 4, 6, 8) else 0))()
+    return [U32(kind), U32(d), U32(c)], [n, n + 1, m + 1, b, b, costs, n, ranks]
+
+
+def check(library, header, tables):
+    """The answer in four numbers, and the choices, empty if there are none."""
+    scales, counts = claimed(header)
+    choices = (U32 * (header[3] if header[0] in (3, 4, 6, 8) else 0))()
     answer = (U32 * 4)()
-    counts = [n, n + 1, m + 1, b, b, costs, n, ranks, len(choices), 4]
-    number = library.vartrymoy_check(U32(kind), U32(d), U32(c), *lent(tables + [choices, answer], counts))
+    number = library.vartrymoy_check(*scales, *lent(tables + [choices, answer], counts + [len(choices), 4]))
     return answer, choices if number == 0 else []
+
+
+def write(library, header, tables, length):
+    """0 and the file's length, or number and place of the refusal; and the buffer, of the length given."""
+    scales, counts = claimed(header)
+    buffer = (U8 * length)()
+    result = (U64 * 2)()
+    library.vartrymoy_write(*scales, *lent(tables + [buffer, result], counts + [length, 2]))
+    return result, bytes(buffer)
 
 
 def main():
     library = ctypes.CDLL(sys.argv[1])
-    library.vartrymoy_read.restype = library.vartrymoy_check.restype = U32
+    for function in (library.vartrymoy_read, library.vartrymoy_check, library.vartrymoy_write):
+        function.restype = U32
     with open(sys.argv[2], "rb") as opened:
-        number, header, tables = read(library, opened.read())
+        file = opened.read()
+    number, header, tables = read(library, file)
     print("read", number)
-    if number == 0:
-        answer, choices = check(library, header, tables)
-        print("answer", *answer)
-        if answer[0] == 0:
-            print("choices", *choices)
+    if number != 0:
+        return
+    answer, choices = check(library, header, tables)
+    print("answer", *answer)
+    if answer[0] == 0:
+        print("choices", *choices)
+    result, written = write(library, header, tables, len(file))
+    print("written", *result)
+    if result[0] == 0:
+        print("same bytes" if result[1] == len(file) and written == file else "other bytes")
 
 
 main()

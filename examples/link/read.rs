@@ -1,4 +1,4 @@
-//! Reads a certificate file and judges its claim: read CERTIFICATE
+//! Reads a certificate file, judges its claim and writes the file anew: read CERTIFICATE
 #[rustfmt::skip]
 extern "C" {
     fn vartrymoy_read(file: *const u8, l: usize, header: *mut u32, hl: usize, marks: *mut u8, ml: usize,
@@ -8,6 +8,10 @@ extern "C" {
         branch_starts: *const u32, bl: usize, destinations: *const u32, dl: usize, weights: *const u32, wl: usize,
         costs: *const u32, col: usize, claims: *const u64, cll: usize, ranks: *const u32, rl: usize,
         choices: *mut u32, chl: usize, answer: *mut u32, anl: usize) -> u32;
+    fn vartrymoy_write(kind: u32, d: u32, c: u32, marks: *const u8, ml: usize, action_starts: *const u32, al: usize,
+        branch_starts: *const u32, bl: usize, destinations: *const u32, dl: usize, weights: *const u32, wl: usize,
+        costs: *const u32, col: usize, claims: *const u64, cll: usize, ranks: *const u32, rl: usize,
+        buffer: *mut u8, bul: usize, result: *mut u64, rel: usize) -> u32;
 }
 
 /// Kind, D, C, n, m and b; the marks; the six tables of 32 bits in order; the claims.
@@ -45,15 +49,33 @@ fn check(Certificate { header: [kind, d, c, n, ..], marks, tables: [a, b, de, w,
     (answer, if number == 0 { choices } else { Vec::new() })
 }
 
+/// Writes the file into the buffer: 0 and the length of the file, or the number and the place of the refusal.
+#[rustfmt::skip]
+fn write(Certificate { header: [kind, d, c, ..], marks, tables: [a, b, de, w, co, r], claims }: &Certificate, buffer: &mut [u8]) -> [u64; 2] {
+    let mut result = [0; 2];
+    unsafe { vartrymoy_write(*kind, *d, *c, marks.as_ptr(), marks.len(), a.as_ptr(), a.len(), b.as_ptr(), b.len(),
+        de.as_ptr(), de.len(), w.as_ptr(), w.len(), co.as_ptr(), co.len(), claims.as_ptr(), claims.len(), r.as_ptr(), r.len(),
+        buffer.as_mut_ptr(), buffer.len(), result.as_mut_ptr(), 2) };
+    result
+}
+
 fn main() {
     let path = std::env::args().nth(1).expect("usage: read CERTIFICATE");
     let spaced = |xs: &[u32]| xs.iter().map(|x| format!(" {x}")).collect::<String>();
-    let read = read(&std::fs::read(path).expect("the file can be read"));
+    let file = std::fs::read(path).expect("the file can be read");
+    let read = read(&file);
     println!("read {}", read.as_ref().err().unwrap_or(&0));
     let Ok(certificate) = read else { return };
     let (answer, choices) = check(&certificate);
     println!("answer{}", spaced(&answer));
     if answer[0] == 0 {
         println!("choices{}", spaced(&choices));
+    }
+    let mut written = vec![0; file.len()];
+    let [number, length] = write(&certificate, &mut written);
+    println!("written {number} {length}");
+    if number == 0 {
+        let same = length == file.len() as u64 && written == file;
+        println!("{} bytes", if same { "same" } else { "other" });
     }
 }

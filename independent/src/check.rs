@@ -40,6 +40,19 @@ impl Verdict {
     }
 }
 
+/// Why tables are refused.
+#[derive(Clone, Copy, Debug, PartialEq, Eq)]
+pub struct Refusal {
+    pub number: u32,
+    pub place: u32,
+}
+
+impl From<Refusal> for Verdict {
+    fn from(Refusal { number, place }: Refusal) -> Verdict {
+        Verdict::Refused { number, place }
+    }
+}
+
 /// Judges a claim. Writes `choices` only when it accepts a "some" claim.
 #[allow(clippy::too_many_arguments)]
 pub fn check(
@@ -93,9 +106,9 @@ pub fn rows(
         destinations,
         weights,
     };
-    match rows.judge() {
+    match rows.refusals() {
         Ok(()) => Verdict::Accepted { greatest_rank: 0 },
-        Err(verdict) => verdict,
+        Err(refusal) => refusal.into(),
     }
 }
 
@@ -118,35 +131,47 @@ pub(crate) struct Claim<'a> {
 }
 
 fn judge(kind: u32, rows: &Rows, claim: &Claim, choices: &mut [u32]) -> Result<u32, Verdict> {
+    let kind = refusals(kind, rows, claim, Some(choices.len()))?;
+    Conditions::new(kind, rows, claim).judge(choices)?;
+    Ok(claim.greatest_rank())
+}
+
+/// Refusals 1 to 14, or the kind if there is none. The choice list is left
+/// aside where its length is not given.
+pub(crate) fn refusals(
+    kind: u32,
+    rows: &Rows,
+    claim: &Claim,
+    choices: Option<usize>,
+) -> Result<Kind, Refusal> {
     let kind = Kind::numbered(kind).ok_or_else(|| refused(1, 0))?;
     rows.scale()?;
     claim.scale(kind)?;
     rows.state_count()?;
     rows.lengths()?;
-    claim.lengths(kind, rows.marks.len(), choices.len())?;
+    claim.lengths(kind, rows.marks.len(), choices)?;
     rows.entries()?;
     claim.entries(kind)?;
-    Conditions::new(kind, rows, claim).judge(choices)?;
-    Ok(claim.greatest_rank())
+    Ok(kind)
 }
 
 impl Rows<'_> {
-    fn judge(&self) -> Result<(), Verdict> {
+    fn refusals(&self) -> Result<(), Refusal> {
         self.scale()?;
         self.state_count()?;
         self.lengths()?;
         self.entries()
     }
 
-    fn scale(&self) -> Result<(), Verdict> {
+    fn scale(&self) -> Result<(), Refusal> {
         refuse_if(!(1..=MAX_WEIGHT_SCALE).contains(&self.d), 2, 0)
     }
 
-    fn state_count(&self) -> Result<(), Verdict> {
+    fn state_count(&self) -> Result<(), Refusal> {
         refuse_if(!(1..=MAX_STATES).contains(&self.marks.len()), 4, 0)
     }
 
-    fn lengths(&self) -> Result<(), Verdict> {
+    fn lengths(&self) -> Result<(), Refusal> {
         let branches = self.destinations.len();
         let start_lengths = 2..=MAX_ACTIONS + 1;
         refuse_if(self.action_starts.len() != self.marks.len() + 1, 5, 2)?;
@@ -156,7 +181,7 @@ impl Rows<'_> {
     }
 
     /// Refusals 6 to 11; the lengths are right.
-    fn entries(&self) -> Result<(), Verdict> {
+    fn entries(&self) -> Result<(), Refusal> {
         let actions = self.branch_starts.len() - 1;
         refuse_at(faulty_start(self.action_starts, actions), 6)?;
         refuse_at(faulty_start(self.branch_starts, self.destinations.len()), 7)?;
@@ -167,7 +192,7 @@ impl Rows<'_> {
     /// The one walk of refusals 9, 10 and 11; the starts are right. It stays
     /// out of line so that its loop has the registers to itself.
     #[inline(never)]
-    fn branches(&self) -> Result<(), Verdict> {
+    fn branches(&self) -> Result<(), Refusal> {
         let states = self.marks.len() as u32;
         let d = self.d;
         let mut destinations = self.destinations;
@@ -195,7 +220,7 @@ impl Rows<'_> {
 
     /// Names the faulty branch of an action that has one.
     #[cold]
-    fn fault_of_action(&self, action: usize) -> Verdict {
+    fn fault_of_action(&self, action: usize) -> Refusal {
         let mut branch = self.branch_starts[action] as usize;
         loop {
             if self.destinations[branch] as usize >= self.marks.len() {
@@ -210,21 +235,22 @@ impl Rows<'_> {
 }
 
 impl Claim<'_> {
-    fn scale(&self, kind: Kind) -> Result<(), Verdict> {
+    fn scale(&self, kind: Kind) -> Result<(), Refusal> {
         let greatest = if kind.cost { 1 } else { MAX_CLAIM_SCALE };
         refuse_if(!(1..=greatest).contains(&self.c), 3, 0)
     }
 
-    fn lengths(&self, kind: Kind, states: usize, choices: usize) -> Result<(), Verdict> {
+    fn lengths(&self, kind: Kind, states: usize, choices: Option<usize>) -> Result<(), Refusal> {
         let length_if = |present| if present { states } else { 0 };
         refuse_if(self.costs.len() != length_if(kind.cost), 5, 6)?;
         refuse_if(self.claims.len() != states, 5, 7)?;
         refuse_if(self.ranks.len() != length_if(kind.at_least), 5, 8)?;
-        refuse_if(choices != length_if(kind.some), 5, 9)
+        let choices_faulty = choices.is_some_and(|length| length != length_if(kind.some));
+        refuse_if(choices_faulty, 5, 9)
     }
 
     /// Refusals 12 to 14; the lengths are right.
-    fn entries(&self, kind: Kind) -> Result<(), Verdict> {
+    fn entries(&self, kind: Kind) -> Result<(), Refusal> {
         let states = self.claims.len() as u32;
         let greatest_claim = if kind.cost {
             MAX_COST_CLAIM
@@ -260,18 +286,18 @@ fn faulty_start(starts: &[u32], end: usize) -> Option<usize> {
     }
 }
 
-fn refused(number: u32, place: usize) -> Verdict {
-    Verdict::Refused {
+fn refused(number: u32, place: usize) -> Refusal {
+    Refusal {
         number,
         place: place as u32,
     }
 }
 
-fn refuse_if(faulty: bool, number: u32, place: usize) -> Result<(), Verdict> {
+fn refuse_if(faulty: bool, number: u32, place: usize) -> Result<(), Refusal> {
     refuse_at(faulty.then_some(place), number)
 }
 
-fn refuse_at(place: Option<usize>, number: u32) -> Result<(), Verdict> {
+fn refuse_at(place: Option<usize>, number: u32) -> Result<(), Refusal> {
     match place {
         Some(place) => Err(refused(number, place)),
         None => Ok(()),

@@ -1,6 +1,6 @@
 //! The certificate file: reading it into lent tables, and writing one.
 
-use crate::check::{MAX_ACTIONS, MAX_BRANCHES, MAX_STATES};
+use crate::check::{refusals, Claim, Refusal, Rows, MAX_ACTIONS, MAX_BRANCHES, MAX_STATES};
 use crate::kind::Kind;
 
 /// Bytes before the tables: length field, version, kind, scales and counts.
@@ -80,7 +80,7 @@ pub fn read(bytes: &[u8], lent: &mut Lent) -> Result<Header, u32> {
     if !entries.fit(lent) {
         return Err(33);
     }
-    if entries.file_bytes() != bytes.len() as u64 {
+    if entries.file_bytes() != bytes.len() {
         return Err(34);
     }
     reader.tables(&entries, lent);
@@ -132,14 +132,14 @@ impl Entries {
             && self.ranks <= lent.ranks.len()
     }
 
-    fn file_bytes(&self) -> u64 {
+    fn file_bytes(&self) -> usize {
         let words = self.action_starts
             + self.branch_starts
             + self.destinations
             + self.weights
             + self.costs
             + self.ranks;
-        HEADER_BYTES as u64 + self.marks as u64 + 4 * words as u64 + 8 * self.claims as u64
+        HEADER_BYTES + self.marks + 4 * words + 8 * self.claims
     }
 }
 
@@ -193,33 +193,74 @@ impl<'a> Reader<'a> {
     }
 }
 
+/// Writes the tables as a file at the front of the buffer and gives its
+/// length; the rest of the buffer stays. Refused are tables that the checker
+/// refuses, the choice list aside, and then a buffer shorter than the file.
+/// A refusal writes nothing.
+#[allow(clippy::too_many_arguments)]
+pub fn write_into(
+    kind: u32,
+    d: u32,
+    c: u32,
+    marks: &[u8],
+    action_starts: &[u32],
+    branch_starts: &[u32],
+    destinations: &[u32],
+    weights: &[u32],
+    costs: &[u32],
+    claims: &[u64],
+    ranks: &[u32],
+    buffer: &mut [u8],
+) -> Result<usize, Refusal> {
+    let content = Content {
+        kind,
+        rows: Rows {
+            d,
+            marks,
+            action_starts,
+            branch_starts,
+            destinations,
+            weights,
+        },
+        claim: Claim {
+            c,
+            costs,
+            claims,
+            ranks,
+        },
+    };
+    refusals(kind, &content.rows, &content.claim, None)?;
+    let length = content.file_bytes();
+    let file = buffer.get_mut(..length).ok_or(Refusal {
+        number: 35,
+        place: 0,
+    })?;
+    content.put(file);
+    Ok(length)
+}
+
 /// Makes a file out of tables. The counts are those of tables 1, 3 and 4; no
 /// entry is judged.
 pub fn write(certificate: &Certificate) -> Vec<u8> {
-    let states = certificate.marks.len();
-    let actions = certificate.branch_starts.len() - 1;
-    let branches = certificate.destinations.len();
-    let mut file = vec![0; LENGTH_FIELD_BYTES];
-    file.extend([VERSION, certificate.kind as u8]);
-    write_words(&mut file, &[certificate.d, certificate.c]);
-    write_words(
-        &mut file,
-        &[states, actions, branches].map(|count| count as u32),
-    );
-    file.extend(&certificate.marks);
-    write_words(&mut file, &certificate.action_starts);
-    write_words(&mut file, &certificate.branch_starts);
-    write_words(&mut file, &certificate.destinations);
-    write_words(&mut file, &certificate.weights);
-    write_words(&mut file, &certificate.costs);
-    file.extend(
-        certificate
-            .claims
-            .iter()
-            .flat_map(|claim| claim.to_be_bytes()),
-    );
-    write_words(&mut file, &certificate.ranks);
-    set_length_field(&mut file);
+    let content = Content {
+        kind: certificate.kind,
+        rows: Rows {
+            d: certificate.d,
+            marks: &certificate.marks,
+            action_starts: &certificate.action_starts,
+            branch_starts: &certificate.branch_starts,
+            destinations: &certificate.destinations,
+            weights: &certificate.weights,
+        },
+        claim: Claim {
+            c: certificate.c,
+            costs: &certificate.costs,
+            claims: &certificate.claims,
+            ranks: &certificate.ranks,
+        },
+    };
+    let mut file = vec![0; content.file_bytes()];
+    content.put(&mut file);
     file
 }
 
@@ -229,6 +270,82 @@ pub fn set_length_field(file: &mut [u8]) {
     file[..LENGTH_FIELD_BYTES].copy_from_slice(&length.to_be_bytes());
 }
 
-fn write_words(file: &mut Vec<u8>, words: &[u32]) {
-    file.extend(words.iter().flat_map(|word| word.to_be_bytes()));
+/// What a file is made of.
+struct Content<'a> {
+    kind: u32,
+    rows: Rows<'a>,
+    claim: Claim<'a>,
+}
+
+impl Content<'_> {
+    fn file_bytes(&self) -> usize {
+        let Content { rows, claim, .. } = self;
+        let entries = Entries {
+            marks: rows.marks.len(),
+            action_starts: rows.action_starts.len(),
+            branch_starts: rows.branch_starts.len(),
+            destinations: rows.destinations.len(),
+            weights: rows.weights.len(),
+            costs: claim.costs.len(),
+            claims: claim.claims.len(),
+            ranks: claim.ranks.len(),
+        };
+        entries.file_bytes()
+    }
+
+    /// Puts the file; it has just the length for it.
+    fn put(&self, file: &mut [u8]) {
+        let Content { kind, rows, claim } = self;
+        let states = rows.marks.len();
+        let actions = rows.branch_starts.len() - 1;
+        let branches = rows.destinations.len();
+        set_length_field(file);
+        let mut writer = Writer {
+            bytes: file,
+            place: LENGTH_FIELD_BYTES,
+        };
+        writer.bytes(&[VERSION, *kind as u8]);
+        writer.words(&[rows.d, claim.c]);
+        writer.words(&[states, actions, branches].map(|count| count as u32));
+        writer.bytes(rows.marks);
+        writer.words(rows.action_starts);
+        writer.words(rows.branch_starts);
+        writer.words(rows.destinations);
+        writer.words(rows.weights);
+        writer.words(claim.costs);
+        writer.longs(claim.claims);
+        writer.words(claim.ranks);
+    }
+}
+
+/// The bytes of a file and the place reached in writing them.
+struct Writer<'a> {
+    bytes: &'a mut [u8],
+    place: usize,
+}
+
+impl Writer<'_> {
+    fn stretch(&mut self, count: usize) -> &mut [u8] {
+        let start = self.place;
+        self.place += count;
+        &mut self.bytes[start..self.place]
+    }
+
+    fn bytes(&mut self, bytes: &[u8]) {
+        self.stretch(bytes.len()).copy_from_slice(bytes);
+    }
+
+    fn words(&mut self, words: &[u32]) {
+        let stretch = self.stretch(4 * words.len());
+        for (bytes, word) in stretch.chunks_exact_mut(4).zip(words) {
+            bytes.copy_from_slice(&word.to_be_bytes());
+        }
+    }
+
+    fn longs(&mut self, longs: &[u64]) {
+        let stretch = self.stretch(8 * longs.len());
+        for (bytes, long) in stretch.chunks_exact_mut(8).zip(longs) {
+            bytes.copy_from_slice(&long.to_be_bytes());
+        }
+    }
 }

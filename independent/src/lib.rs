@@ -7,4 +7,5 @@ pub mod file;
 pub mod generate;
 pub mod kind;
 pub mod program;
+pub mod rewrite;
 pub mod stream;

@@ -7,11 +7,12 @@ use std::io::{self, BufReader, BufWriter, Read, Write};
 use std::process::ExitCode;
 
 use independent::generate;
-use independent::program::{answer, Answer, MAX_INPUT};
+use independent::program::{answer, MAX_INPUT};
+use independent::rewrite::rewrite;
 use independent::stream::{read_case, write_case};
 
 const USAGE: &str =
-    "usage: independent check | generate SEED COUNT | stream FILE.. | answers | census";
+    "usage: independent check | generate SEED COUNT | stream FILE.. | answers | rewrite | census";
 const BAD_USAGE: u8 = 2;
 const FAILURE: u8 = 1;
 
@@ -38,6 +39,7 @@ enum Command {
     Generate { seed: u64, count: u64 },
     Stream { files: Vec<String> },
     Answers,
+    Rewrite,
     Census,
 }
 
@@ -54,6 +56,7 @@ impl Command {
                 files: arguments[1..].to_vec(),
             }),
             ["answers"] => Some(Command::Answers),
+            ["rewrite"] => Some(Command::Rewrite),
             ["census"] => Some(Command::Census),
             _ => None,
         }
@@ -73,7 +76,8 @@ impl Command {
                     write_case(&mut out, &fs::read(file)?)?;
                 }
             }
-            Command::Answers => for_each_answer(|answer| write!(out, "{answer}"))?,
+            Command::Answers => for_each_case(|case| write!(out, "{}", answer(case)))?,
+            Command::Rewrite => for_each_case(|case| writeln!(out, "{}", rewrite(case)))?,
             Command::Census => print_census(&mut out)?,
         }
         out.flush()
@@ -88,10 +92,10 @@ fn print_check(out: &mut impl Write) -> io::Result<()> {
     write!(out, "{}", answer(&input))
 }
 
-fn for_each_answer(mut each: impl FnMut(Answer) -> io::Result<()>) -> io::Result<()> {
+fn for_each_case(mut each: impl FnMut(&[u8]) -> io::Result<()>) -> io::Result<()> {
     let mut input = BufReader::new(io::stdin().lock());
     while let Some(case) = read_case(&mut input)? {
-        each(answer(&case))?;
+        each(&case)?;
     }
     Ok(())
 }
@@ -100,7 +104,8 @@ fn for_each_answer(mut each: impl FnMut(Answer) -> io::Result<()>) -> io::Result
 fn print_census(out: &mut impl Write) -> io::Result<()> {
     let mut totals = BTreeMap::new();
     let mut by_kind = BTreeMap::new();
-    for_each_answer(|answer| {
+    for_each_case(|case| {
+        let answer = answer(case);
         let number = answer.verdict.number();
         *totals.entry(number).or_insert(0u64) += 1;
         if let (0 | 21..=24, Some(kind)) = (number, answer.kind) {

@@ -2,8 +2,8 @@
 
 use std::fmt;
 
-use crate::check::{check, Verdict, NONE};
-use crate::file::{self, Entries, Header, Lent};
+use crate::check::{check, Refusal, Verdict, NONE};
+use crate::file::{self, Certificate, Entries, Header, Lent};
 use crate::kind::Kind;
 
 pub const ROOM_STATES: usize = 500;
@@ -24,89 +24,103 @@ pub struct Answer {
 
 /// Reads the input as a file and checks it.
 pub fn answer(input: &[u8]) -> Answer {
+    match read(input) {
+        Ok(certificate) => checked(&certificate),
+        Err(refusal) => Answer {
+            kind: None,
+            verdict: refusal.into(),
+            choices: Vec::new(),
+        },
+    }
+}
+
+/// Reads the input as a file for which there is room.
+pub(crate) fn read(input: &[u8]) -> Result<Certificate, Refusal> {
+    let refused = |number| Refusal { number, place: 0 };
     if input.len() > MAX_INPUT {
-        return unread(33);
+        return Err(refused(33));
     }
-    let mut room = Room::new();
-    match file::read(input, &mut room.lent()) {
-        Ok(header) => room.check(&header),
-        Err(number) => unread(number),
+    let mut room = room();
+    let mut lent = Lent {
+        marks: &mut room.marks,
+        action_starts: &mut room.action_starts,
+        branch_starts: &mut room.branch_starts,
+        destinations: &mut room.destinations,
+        weights: &mut room.weights,
+        costs: &mut room.costs,
+        claims: &mut room.claims,
+        ranks: &mut room.ranks,
+    };
+    let header = file::read(input, &mut lent).map_err(refused)?;
+    Ok(cut(room, &header))
+}
+
+/// Tables as long as there is room for.
+fn room() -> Certificate {
+    Certificate {
+        kind: 0,
+        d: 0,
+        c: 0,
+        marks: vec![0; ROOM_STATES],
+        action_starts: vec![0; ROOM_STATES + 1],
+        branch_starts: vec![0; ROOM_ACTIONS + 1],
+        destinations: vec![0; ROOM_BRANCHES],
+        weights: vec![0; ROOM_BRANCHES],
+        costs: vec![0; ROOM_STATES],
+        claims: vec![0; ROOM_STATES],
+        ranks: vec![0; ROOM_STATES],
     }
 }
 
-fn unread(number: u32) -> Answer {
+/// The first entries of the tables, as many as the counts say.
+fn cut(mut room: Certificate, header: &Header) -> Certificate {
+    let kind = Kind::numbered(header.kind).expect("the reader refuses other kinds");
+    let entries = Entries::of(header, kind);
+    room.marks.truncate(entries.marks);
+    room.action_starts.truncate(entries.action_starts);
+    room.branch_starts.truncate(entries.branch_starts);
+    room.destinations.truncate(entries.destinations);
+    room.weights.truncate(entries.weights);
+    room.costs.truncate(entries.costs);
+    room.claims.truncate(entries.claims);
+    room.ranks.truncate(entries.ranks);
+    Certificate {
+        kind: header.kind,
+        d: header.d,
+        c: header.c,
+        ..room
+    }
+}
+
+fn checked(certificate: &Certificate) -> Answer {
+    let kind = Kind::numbered(certificate.kind).expect("the reader refuses other kinds");
+    let length = if kind.some {
+        certificate.marks.len()
+    } else {
+        0
+    };
+    let mut choices = vec![NONE; length];
+    let verdict = check(
+        certificate.kind,
+        certificate.d,
+        certificate.c,
+        &certificate.marks,
+        &certificate.action_starts,
+        &certificate.branch_starts,
+        &certificate.destinations,
+        &certificate.weights,
+        &certificate.costs,
+        &certificate.claims,
+        &certificate.ranks,
+        &mut choices,
+    );
+    if verdict.number() != 0 {
+        choices.clear();
+    }
     Answer {
-        kind: None,
-        verdict: Verdict::Refused { number, place: 0 },
-        choices: Vec::new(),
-    }
-}
-
-struct Room {
-    marks: Vec<u8>,
-    action_starts: Vec<u32>,
-    branch_starts: Vec<u32>,
-    destinations: Vec<u32>,
-    weights: Vec<u32>,
-    costs: Vec<u32>,
-    claims: Vec<u64>,
-    ranks: Vec<u32>,
-}
-
-impl Room {
-    fn new() -> Room {
-        Room {
-            marks: vec![0; ROOM_STATES],
-            action_starts: vec![0; ROOM_STATES + 1],
-            branch_starts: vec![0; ROOM_ACTIONS + 1],
-            destinations: vec![0; ROOM_BRANCHES],
-            weights: vec![0; ROOM_BRANCHES],
-            costs: vec![0; ROOM_STATES],
-            claims: vec![0; ROOM_STATES],
-            ranks: vec![0; ROOM_STATES],
-        }
-    }
-
-    fn lent(&mut self) -> Lent<'_> {
-        Lent {
-            marks: &mut self.marks,
-            action_starts: &mut self.action_starts,
-            branch_starts: &mut self.branch_starts,
-            destinations: &mut self.destinations,
-            weights: &mut self.weights,
-            costs: &mut self.costs,
-            claims: &mut self.claims,
-            ranks: &mut self.ranks,
-        }
-    }
-
-    /// Checks the first entries of the tables, as many as the counts say.
-    fn check(&self, header: &Header) -> Answer {
-        let kind = Kind::numbered(header.kind).expect("the reader refuses other kinds");
-        let entries = Entries::of(header, kind);
-        let mut choices = vec![NONE; if kind.some { header.states } else { 0 }];
-        let verdict = check(
-            header.kind,
-            header.d,
-            header.c,
-            &self.marks[..entries.marks],
-            &self.action_starts[..entries.action_starts],
-            &self.branch_starts[..entries.branch_starts],
-            &self.destinations[..entries.destinations],
-            &self.weights[..entries.weights],
-            &self.costs[..entries.costs],
-            &self.claims[..entries.claims],
-            &self.ranks[..entries.ranks],
-            &mut choices,
-        );
-        if verdict.number() != 0 {
-            choices.clear();
-        }
-        Answer {
-            kind: Some(header.kind),
-            verdict,
-            choices,
-        }
+        kind: Some(certificate.kind),
+        verdict,
+        choices,
     }
 }
 

@@ -1,12 +1,11 @@
 //! Reading files, and what the check program makes of them.
 
-use crate::models::held;
+use crate::models::{held, FILLING};
 use independent::file::{read, set_length_field, write, Certificate, Header, Lent};
 use independent::program::{answer, MAX_INPUT};
 
 const STATES_PLACE: usize = 14;
 const BRANCHES_PLACE: usize = 22;
-const FILLING: u8 = 0xee;
 const FILLING_WORD: u32 = 0xeeee_eeee;
 const FILLING_LONG: u64 = 0xeeee_eeee_eeee_eeee;
 

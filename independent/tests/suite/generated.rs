@@ -1,11 +1,13 @@
-//! The generated cases reach every answer often enough.
+//! The generated cases reach every answer often enough, and those that are not
+//! refused are written anew byte by byte.
 
 use std::collections::BTreeMap;
 
-use independent::check::Verdict;
+use independent::check::{Refusal, Verdict};
 use independent::generate::case;
 use independent::kind::Kind;
 use independent::program::{answer, MAX_INPUT};
+use independent::rewrite::{rewrite, Rewritten};
 use independent::stream::{read_case, write_case};
 
 const CASES: u64 = 2_000;
@@ -43,6 +45,17 @@ fn assert_census(seed: u64) {
 fn every_answer_occurs_often_enough() {
     for seed in [0, 1, 2, u64::MAX] {
         assert_census(seed);
+    }
+}
+
+#[test]
+fn what_is_not_refused_is_written_anew() {
+    for file in (0..CASES).map(|index| case(3, index)) {
+        let expected = match answer(&file).verdict {
+            Verdict::Refused { number, place } => Rewritten::Refused(Refusal { number, place }),
+            _ => Rewritten::Same { length: file.len() },
+        };
+        assert_eq!(rewrite(&file), expected, "{file:?}");
     }
 }
 

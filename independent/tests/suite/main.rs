@@ -5,3 +5,4 @@ mod generated;
 mod models;
 mod refusals;
 mod worked_cases;
+mod written;

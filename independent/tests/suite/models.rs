@@ -1,11 +1,13 @@
 //! The small models of document 01.
 
-use independent::check::{check, Verdict, NONE};
-use independent::file::Certificate;
+use independent::check::{check, Refusal, Verdict, NONE};
+use independent::file::{write_into, Certificate};
 use independent::kind::Kind;
 
 /// Stands in choice lists that must be left alone.
 pub const UNTOUCHED: u32 = 77;
+/// Stands in tables and buffers before they are lent.
+pub const FILLING: u8 = 0xee;
 
 pub fn model_a(kind: u32, claims: [u64; 3], ranks: &[u32]) -> Certificate {
     let cost = Kind::numbered(kind).is_some_and(|kind| kind.cost);
@@ -79,4 +81,21 @@ pub fn checked_with_choices(claim: &Certificate, length: usize) -> (Verdict, Vec
         &mut choices,
     );
     (verdict, choices)
+}
+
+pub fn written(claim: &Certificate, buffer: &mut [u8]) -> Result<usize, Refusal> {
+    write_into(
+        claim.kind,
+        claim.d,
+        claim.c,
+        &claim.marks,
+        &claim.action_starts,
+        &claim.branch_starts,
+        &claim.destinations,
+        &claim.weights,
+        &claim.costs,
+        &claim.claims,
+        &claim.ranks,
+        buffer,
+    )
 }

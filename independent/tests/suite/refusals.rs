@@ -1,7 +1,8 @@
-//! Refusals 1 to 14 with their places and their order.
+//! Refusals 1 to 14 with their places and their order, of the checker and of
+//! the writer.
 
-use crate::models::{checked, checked_with_choices, held};
-use independent::check::{rows, Verdict, MAX_ACTIONS, MAX_BRANCHES, MAX_STATES};
+use crate::models::{checked, checked_with_choices, held, written, FILLING};
+use independent::check::{rows, Refusal, Verdict, MAX_ACTIONS, MAX_BRANCHES, MAX_STATES};
 use independent::file::Certificate;
 
 fn refused(number: u32, place: u32) -> Verdict {
@@ -23,6 +24,13 @@ fn assert_refused(kind: u32, change: impl Fn(&mut Certificate), number: u32, pla
     let mut claim = held(kind);
     change(&mut claim);
     assert_eq!(checked(&claim).0, refused(number, place), "{claim:?}");
+    // The refusal goes before a buffer that is too short, and writes nothing.
+    for length in [1_000, 0] {
+        let mut buffer = vec![FILLING; length];
+        let answered = written(&claim, &mut buffer);
+        assert_eq!(answered, Err(Refusal { number, place }), "{claim:?}");
+        assert!(buffer.iter().all(|&byte| byte == FILLING), "{claim:?}");
+    }
     let in_rows = match number {
         5 => place <= 5,
         _ => matches!(number, 2 | 4 | 6..=11),
