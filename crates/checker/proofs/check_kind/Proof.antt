@@ -16,8 +16,8 @@ returns c =
 settle-requires : tie.Need-settle-requires
 settle-requires c κs =
     let h = goes (c .before .before .accepts .ensures) (c .before .if1 .left) (c .before .before .before .refusals .ensures) in (
-      ready _ _ _ _ (c .before .before .before .before .before .before .before .before .before .before .before .before .before .before .pre) h,
-      choices-long _ _ _ _ h,
+      ready _ _ _ (c .before .before .before .before .before .before .before .before .before .before .before .before .before .args .choices .now) (c .before .before .before .before .before .before .before .before .before .before .before .before .before .pre) h,
+      choices-long _ _ _ (c .before .before .before .before .before .before .before .before .before .before .before .before .before .args .choices .now) h,
     )
 
 returns-2 : tie.Need-returns-2
@@ -29,4 +29,4 @@ returns-2 c =
 pub check-kind-spec : {M : Type 1} → statement M
 check-kind-spec =
     tie.close
-    (tie.spec (λ c κs. search needs) (λ c κs. search needs) (λ c. search needs) returns settle-requires (λ c. search needs) returns-2)
+    (tie.spec (λ c κs. search needs) (λ c κs. search needs) returns settle-requires (λ c. search needs) returns-2)
