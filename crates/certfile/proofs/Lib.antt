@@ -1,3 +1,4 @@
 pub mod Placed
 pub mod Judged
 pub mod Passed
+pub mod Contents

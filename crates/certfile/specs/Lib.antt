@@ -1,3 +1,4 @@
 pub mod File
 pub mod Layout
 pub mod Tables
+pub mod Contents

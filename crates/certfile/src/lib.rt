@@ -4,6 +4,7 @@ mod layout;
 
 pub use layout::Lengths;
 pub use layout::counts_of;
+pub use layout::length_of;
 ghost use mathlib.Core.Path.{_≡_};
 ghost use Rattle.certfile.specs.File.{outcomeOf};
 ghost use Rattle.certfile.specs.Layout.{listed};

@@ -25,8 +25,9 @@ use Rattle.certfile.specs.declared.Outcome.the-variants.{Read, Refused}
 use Rattle.certfile.specs.File.{announced, outcomeOf, tableOf}
 use Rattle.certfile.specs.Layout.{countsOf, tablePlace}
 use Rattle.certfile.specs.Tables.{Tables, lent, ReadInto}
+use Rattle.certfile.specs.Contents.{cut, modelCut, claimCut}
 use Rattle.certfile.proofs.Passed.{ready}
-use Rattle.program.specs.Printed.{tableIn, modelIn, claimIn, cut, modelCut, claimCut, checkedText, readText, refusedText, printedOf, mostBytes, room, blank}
+use Rattle.program.specs.Printed.{checkedText, readText, refusedText, printedOf, mostBytes, room, blank}
 use Rattle.program.specs.Shows.{Shows, Enough}
 
 -- each part that is cut has the length that is asked

@@ -17,22 +17,12 @@ use Rattle.certfile.specs.declared.Outcome.the-variants.{Read, Refused}
 use Rattle.certfile.specs.File.{announced, outcomeOf, tableOf}
 use Rattle.certfile.specs.Layout.{tablePlace}
 use Rattle.certfile.specs.Tables.{Tables, lent, ReadInto}
+use Rattle.certfile.specs.Contents.{modelIn, claimIn, modelCut, claimCut}
 use Rattle.certfile.proofs.Passed.{ready}
+use Rattle.certfile.proofs.Contents.{model-read, claim-read}
 use Rattle.model.specs.Refusals.{choiceCount}
-use Rattle.program.specs.Printed.{tableIn, modelIn, claimIn, cut, modelCut, claimCut, checkedText, readText, refusedText, printedOf, mostBytes, room, blank}
+use Rattle.program.specs.Printed.{checkedText, readText, refusedText, printedOf, mostBytes, room, blank}
 use Rattle.program.specs.Shows.{Shows, Enough}
-
--- a block has as many numbers as it counts
-numbers-length : (x : Block) (file : List ℕ) (at : ℕ) → length (numbers x file at) ≡ x .count
-unfolding numbers
-numbers-length x file at = Fold.listed-length (λ k. word (x .width) file (at + k * x .width)) (x .count) 0 ∙ omega arith
-
--- what was read, and then cut, is what the file holds
-cut-read : (h : Header) (i : ℕ) (file table : List ℕ) → cut h i (tableOf (Read h) i file table) ≡ tableIn h file i
-unfolding cut tableOf tableIn overwritten tablePlace
-cut-read h i file table =
-    let x = block (announced h) (i - 1) in
-    take-at (numbers x file (tablePlace h (i - 1))) (drop (x .count) table) (x .count) (numbers-length x file (tablePlace h (i - 1)))
 
 pub lengths-kept : (t u : Tables)
     → length (u .marks) ≡ length (t .marks)
@@ -70,22 +60,13 @@ module _ (o : Outcome) (file : List ℕ) (t u : Tables) (choices text : List ℕ
           bytes = long;
         }
 
-    one : (i : ℕ) (x y : List ℕ) → x ≡ tableOf o i file y → cut h i x ≡ tableIn h file i
-    one i x y p = rw (p, e) (cut-read h i file y)
-
-    model-read : modelCut h u ≡ modelIn h file
-    model-read = λ j. modelOf (h .d) (one 1 _ _ (w .marks) j) (one 2 _ _ (w .actionStarts) j) (one 3 _ _ (w .branchStarts) j) (one 4 _ _ (w .destinations) j) (one 5 _ _ (w .weights) j)
-
-    claim-read : claimCut h u ≡ claimIn h file
-    claim-read = λ j. claimOf (h .c) (one 6 _ _ (w .costs) j) (one 7 _ _ (w .claims) j) (one 8 _ _ (w .ranks) j)
-
     pub printed-read : (r : ℕ) (text′ : List ℕ)
         → Shows (checkedText (h .kind) (modelCut h u) (claimCut h u) (take (choiceCount (h .kind) (h .n)) choices)) r text text′
         → Shows (readText (outcomeOf (lent t) file) file choices) r text text′
     printed-read r text′ p =
         shows-same
-        (ap (λ (x : Model). checkedText (h .kind) x (claimCut h u) (take (choiceCount (h .kind) (h .n)) choices)) model-read
-        ∙ ap (λ (x : Claim). checkedText (h .kind) (modelIn h file) x (take (choiceCount (h .kind) (h .n)) choices)) claim-read
+        (ap (λ (x : Model). checkedText (h .kind) x (claimCut h u) (take (choiceCount (h .kind) (h .n)) choices)) (model-read o file t u w h e)
+        ∙ ap (λ (x : Claim). checkedText (h .kind) (modelIn h file) x (take (choiceCount (h .kind) (h .n)) choices)) (claim-read o file t u w h e)
         ∙ read-is h file choices
         ∙ ap (λ (x : Outcome). readText x file choices) (sym e ∙ w .answer))
         p

@@ -2,10 +2,11 @@
 ghost use mathlib.Core.Path.{_≡_};
 ghost use Prim.Native.Nat.{_+_, _*_, _≤_};
 ghost use lib.ListN.{length, take};
+ghost use Rattle.certfile.specs.Contents.{modelCut, claimCut};
 ghost use Rattle.certfile.specs.File.{outcomeOf};
 ghost use Rattle.certfile.specs.Tables.{tables, lent};
 ghost use Rattle.model.specs.Refusals.{choiceCount};
-ghost use Rattle.program.specs.Printed.{refusedText, checkedText, modelCut, claimCut, readText, printedOf};
+ghost use Rattle.program.specs.Printed.{refusedText, checkedText, readText, printedOf};
 ghost use Rattle.program.specs.Shows.{Shows, Enough};
 use certfile::FileRefusal;
 use certfile::Header;

@@ -32,6 +32,12 @@ unfoldable pub blocksOf : List Section → List Block
 blocksOf [] = []
 blocksOf (x ∷ xs) = filled x ∷ blocksOf xs
 
+-- blocks with lists of numbers, one for each
+unfoldable pub sectionsOf : List Block → List (List ℕ) → List Section
+sectionsOf [] lists = []
+sectionsOf (x ∷ xs) [] = sectionOf (x .width) [] ∷ sectionsOf xs []
+sectionsOf (x ∷ xs) (l ∷ lists) = sectionOf (x .width) l ∷ sectionsOf xs lists
+
 -- section number i, and an empty one past the last
 unfoldable pub section : List Section → ℕ → Section
 section [] i = record { width = 0; numbers = [] }
