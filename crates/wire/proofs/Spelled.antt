@@ -36,6 +36,13 @@ spelled-cons : (width x : ℕ) (xs : List ℕ) → spelled width (x ∷ xs) ≡ 
 unfolding spelled
 spelled-cons width x xs = refl
 
+-- where a number that is put ends, and numbers
+pub put-ends : (width x : ℕ) {t t′ : List ℕ} {at next : ℕ} → Put t t′ at next (bytes width x) → next ≡ at + width
+put-ends width x p = omega (arith, p .next, bytes-length width x)
+
+pub spell-ends : (width : ℕ) (xs : List ℕ) {t t′ : List ℕ} {at next : ℕ} → Put t t′ at next (spelled width xs) → next ≡ at + width * length xs
+spell-ends width xs p = omega (arith, p .next, spelled-length width xs)
+
 -- so much is put, and the rest is still to come
 pub record Spelling (width : ℕ) (table t : List ℕ) (start i at : ℕ) (now : List ℕ) : Type 0 where
   pub high : i ≤ length table

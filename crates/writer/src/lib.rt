@@ -31,12 +31,9 @@ fn head(file: &mut [u8], h: Header, bytes: usize) -> usize
     let after = (bytes - Width::WORD) as u32;
     let version = wire::put32(file, Header::LENGTH_AT, after);
     let kind = wire::put8(file, version, Header::VERSION);
-    let d = wire::put8(file, kind, h.kind as u8);
-    let c = wire::put32(file, d, h.d);
-    let n = wire::put32(file, c, h.c);
-    let m = wire::put32(file, n, h.n);
-    let b = wire::put32(file, m, h.m);
-    wire::put32(file, b, h.b)
+    let rest = wire::put8(file, kind, h.kind as u8);
+    let numbers = [h.d, h.c, h.n, h.m, h.b];
+    wire::spell32(file, rest, &numbers)
 }
 
 // The header and the tables, one after the other.

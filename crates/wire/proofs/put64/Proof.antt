@@ -1,16 +1,15 @@
 -- `wire::put64` meets its contract: the four high bytes, then the four low ones. Assumes nothing.
 use mathlib.Core.Path.{sym}
-use Prim.Native.Nat.{_/_}
 use borrow.Author.Needs.{needs}
 use native.Mathlib.Omega.{arith}
 use Rattle.walk.proofs.Putting.{put-then, put-same, put-length}
-use Rattle.wire.proofs.Spelled.{bytes-length}
+use Rattle.wire.proofs.Spelled.{put-ends}
 use Rattle.wire.proofs.Parts.{eight}
 use Rattle.wire.proofs.put64.Statement.{statement}
 use Rattle.wire.proofs.put64.Tie as tie
 
 put32-requires-2 : tie.Need-put32-requires-2
-put32-requires-2 c κs = let high = c .before .before .before .put32 .ensures in omega (arith, put-length high, high .next, bytes-length 4 (c .before .before .before .before .before .before .args .x / 4294967296))
+put32-requires-2 c κs = let high = c .before .before .before .put32 .ensures in omega (arith, put-length high, put-ends 4 _ high)
 
 returns : tie.Need-returns
 returns c = put-same (put-then (c .before .before .before .before .before .before .put32 .ensures) (c .before .before .put322 .ensures)) (sym (eight (c .before .before .before .before .before .before .before .before .before .args .x)))
