@@ -142,4 +142,3 @@ module _ (h : Header) (t : Model) (u : Claim) where
       (sym (parts ∙ rw (bytes-spelled (t .marks) m, append-nil (spelled 4 (u .ranks))))) in
       let e = put-whole all (omega (arith, all .next)) in
       e .1 ∙ rw (e .0)
-

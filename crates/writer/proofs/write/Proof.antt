@@ -1,86 +1,67 @@
+-- `writer::write` meets its contract: refused, too short, or written. Assumes nothing.
+use mathlib.Core.Path.{sym, _∙_}
+use native.Mathlib.Omega.{arith}
+use lib.Dec.{T}
 use borrow.Author.Needs.{needs}
+use Rattle.model.specs.Tables.{Model, Claim, modelOf, claimOf}
+use Rattle.model.specs.Checked.{accepts, asideOf}
+use Rattle.model.proofs.Tried.{goes, stops}
+use Rattle.writer.proofs.Judged.{aside-is, well-formed, file-size, room, refused, too-short, long-enough}
 use Rattle.writer.proofs.write.Statement.{statement}
 use Rattle.writer.proofs.write.Tie as tie
-use Rattle.writer.proofs.write.Reads as reads
-use Rattle.writer.proofs.write.Lts as lts
-use Rattle.certfile.proofs.length_of.Reads as length-of-reads
-use Rattle.checker.proofs.refuse.Reads as refuse-reads
-use Rattle.model.proofs.answers.Verdict.accepts.Reads as accepts-reads
-use Rattle.model.proofs.choice_count.Reads as choice-count-reads
-use Rattle.writer.proofs.answered.Reads as answered-reads
-use Rattle.writer.proofs.put.Reads as put-reads
 
--- src/lib.rt:106:9
-choice-count-requires : tie.Need-choice-count-requires
-choice-count-requires c κs = search needs
+abbrev t : tie.Start → Model
+t c =
+    modelOf (c .args .d) (c .args .marks .now) (c .args .action-starts .now) (c .args .branch-starts .now) (c .args .destinations .now) (c .args .weights .now)
 
--- src/lib.rt:107:9
-refuse-requires : tie.Need-refuse-requires
-refuse-requires c κs = search needs
+abbrev u : tie.Start → Claim
+u c = claimOf (c .args .c) (c .args .costs .now) (c .args .claims .now) (c .args .ranks .now)
 
--- src/lib.rt:121:9
-accepts-requires : tie.Need-accepts-requires
-accepts-requires c κs = search needs
-
--- src/lib.rt:122:9
-answered-requires : tie.Need-answered-requires
-answered-requires c κs = search needs
-
--- src/lib.rt:122:9
 returns : tie.Need-returns
-returns c = ?
+returns c =
+    let s = c .before .before .before .before .before .before .before .before .before .before .before .before .before .before in
+    let e = c .before .before .before .refuse .ensures ∙ aside-is _ (t s) (u s) _ (c .before .before .before .before .choice-count .ensures) in
+    refused _ (t s) (u s) _ e (stops (c .before .before .accepts .ensures) (c .before .if1 .taken) e) _ (c .answered .ensures) _
 
--- src/lib.rt:128:12
+-- 1 to 14 do not refuse
+passed : (c : tie.Else1) → let s = c .before .before .before .before .before .before .before .before .before .before .before .before .before in T (accepts (asideOf (s .args .kind) (t s) (u s)))
+passed c =
+    let s = c .before .before .before .before .before .before .before .before .before .before .before .before .before in
+    goes (c .before .accepts .ensures) (c .if1 .left) (c .before .before .refuse .ensures ∙ aside-is _ (t s) (u s) _ (c .before .before .before .choice-count .ensures))
+
 cast-t20 : tie.Need-cast-t20
-cast-t20 c = ?
+cast-t20 c = let s = c .before .before .before .before .before .before .before .before .before .before .before .before .before in omega (arith, well-formed _ (t s) (u s) (passed c) .sized .n-most)
 
--- src/lib.rt:129:13
 sub-t22 : tie.Need-sub-t22
-sub-t22 c = ?
+sub-t22 c = let s = c .before .before .before .before .before .before .before .before .before .before .before .before .before in omega (arith, well-formed _ (t s) (u s) (passed c) .sized .table3-least)
 
--- src/lib.rt:129:12
 cast-t23 : tie.Need-cast-t23
-cast-t23 c = ?
+cast-t23 c = let s = c .before .before .before .before .before .before .before .before .before .before .before .before .before in omega (arith, well-formed _ (t s) (u s) (passed c) .sized .table3-most)
 
--- src/lib.rt:130:12
 cast-t25 : tie.Need-cast-t25
-cast-t25 c = ?
+cast-t25 c = let s = c .before .before .before .before .before .before .before .before .before .before .before .before .before in omega (arith, well-formed _ (t s) (u s) (passed c) .sized .table4)
 
--- src/lib.rt:132:9
-length-of-requires : tie.Need-length-of-requires
-length-of-requires c κs = search needs
-
--- src/lib.rt:134:9
 returns-2 : tie.Need-returns-2
-returns-2 c = ?
+returns-2 c =
+    let s = c .before .before .before .before .before .before .before .before .before .before .before .before .before .before .before in
+    let p = passed (c .before .before) in
+    too-short _ (t s) (u s) p _ (omega (arith, c .if2 .taken, c .before .length-of .ensures, file-size _ (t s) (u s) p))
 
--- src/lib.rt:139:5
 put-requires : tie.Need-put-requires
-put-requires c κs = ?
+put-requires c κs =
+    let s = c .before .before .before .before .before .before .before .before .before .before .before .before .before .before .before .before in
+    room _ (t s) (u s) (passed (c .before .before .before)) _ _ (c .before .before .length-of .ensures) (c .before .if2 .left)
 
--- src/lib.rt:90:1
-same-length : tie.Need-same-length
-same-length c = search needs
-
--- src/lib.rt:90:1
 returns-3 : tie.Need-returns-3
-returns-3 c = ?
+returns-3 c =
+    let s = c .before .before .before .before .before .before .before .before .before .before .before .before .before .before .before .before .before .before .before in
+    let p = passed (c .before .before .before .before .before .before) in
+    let e = c .before .before .before .before .before .length-of .ensures in
+    let n = file-size _ (t s) (u s) p in
+    long-enough _ (t s) (u s) p _ (omega (arith, c .before .before .before .before .if2 .left, e, n)) _ (e ∙ sym n) _ (c .before .before .put .ensures)
 
 pub write-spec : {M : Type 1} → statement M
 write-spec =
     tie.close
-    (tie.spec
-    choice-count-requires
-    refuse-requires
-    accepts-requires
-    answered-requires
-    returns
-    cast-t20
-    sub-t22
-    cast-t23
-    cast-t25
-    length-of-requires
-    returns-2
-    put-requires
-    same-length
-    returns-3)
+    (tie.spec (λ c κs. search needs) (λ c κs. search needs) (λ c κs. search needs) (λ c κs. search needs) returns cast-t20 sub-t22 cast-t23 cast-t25
+    (λ c κs. search needs) returns-2 put-requires (λ c. search needs) returns-3)
