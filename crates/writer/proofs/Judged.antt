@@ -11,7 +11,7 @@ use Rattle.walk.proofs.Bools.{holds, is-true, and-right}
 use Rattle.model.specs.declared.answers.Verdict.{Verdict}
 use Rattle.model.specs.declared.answers.Verdict.the-variants.{Accepted, Refused as Refuses, Violated}
 use Rattle.model.specs.Kinds.{isKind, kindOf}
-use Rattle.model.specs.Tables.{Model, Claim, states}
+use Rattle.model.specs.Tables.{Model, Claim, modelOf, claimOf, states}
 use Rattle.model.specs.Answers.{pass, then, tried, require}
 use Rattle.model.specs.Refusals.{entries, choiceCount, kindTest, tests}
 use Rattle.model.specs.Checked.{accepts, refusalOf, asideOf}
@@ -20,6 +20,7 @@ use Rattle.model.proofs.Tried.{then-passed, then-stopped, then-first, then-seco
 use Rattle.model.proofs.Formed.{formed}
 use Rattle.wire.specs.Blocks.{size}
 use Rattle.wire.specs.Sections.{written}
+use Rattle.certfile.specs.declared.Header.{Header}
 use Rattle.certfile.specs.File.{announced, blocks}
 use Rattle.writer.specs.declared.Written.{Written}
 use Rattle.writer.specs.declared.Written.the-variants.{Length, Refused}
@@ -40,6 +41,13 @@ module _ (kind : ℕ) (t : Model) (u : Claim) where
   file-is : fileOf kind t u ≡ written (sections (headerFor kind t u) t u)
   unfolding fileOf
   file-is = refl
+
+  -- the same tables with the scales of a header
+  abbrev modelled : Header → Model
+  modelled h = modelOf (h .d) (t .marks) (t .actionStarts) (t .branchStarts) (t .destinations) (t .weights)
+
+  abbrev claimed : Header → Claim
+  claimed h = claimOf (h .c) (u .costs) (u .claims) (u .ranks)
 
   -- tables that 1 to 14 do not refuse
   module _ (p : T (accepts (asideOf kind t u))) where
@@ -68,8 +76,14 @@ module _ (kind : ℕ) (t : Model) (u : Claim) where
           omega (arith, s .n-most, s .table3-most, s .table4, at-most (kindOf kind .costs) (states t), at-most (kindOf kind .ranks) (states t)),
         )
 
-    pub room : (bytes : ℕ) (file : List ℕ) → bytes ≡ size (blocks (headerFor kind t u)) → bytes ≤ length file → Room (headerFor kind t u) bytes t u file
-    room bytes file e l =
+    -- and so its header can be made
+    pub countable : (states t < 2 ^ 32) × ((1 ≤ length (t .branchStarts)) × ((length (t .branchStarts) ≤ 2 ^ 32) × (length (t .destinations) < 2 ^ 32)))
+    countable =
+        let s = well-formed .sized in
+        (omega (arith, s .n-most), (omega (arith, s .table3-least), (omega (arith, s .table3-most), omega (arith, s .table4))))
+
+    fits : (bytes : ℕ) (file : List ℕ) → bytes ≡ size (blocks (headerFor kind t u)) → bytes ≤ length file → Room (headerFor kind t u) bytes t u file
+    fits bytes file e l =
         record {
           head = record {
             kind = few .0;
@@ -79,6 +93,10 @@ module _ (kind : ℕ) (t : Model) (u : Claim) where
           };
           room = omega (arith, file-size, ap length file-is);
         }
+
+    pub room : (h : Header) → h ≡ headerFor kind t u → (bytes : ℕ) (file : List ℕ) → bytes ≡ length (fileOf kind t u) → bytes ≤ length file
+        → Room h bytes (modelled h) (claimed h) file
+    room h q bytes file e l = rw q (fits bytes file (e ∙ file-size) l)
 
   -- the answer: the first test that does not pass, or the length
   written-is : (buffer : ℕ)
@@ -92,57 +110,66 @@ module _ (kind : ℕ) (t : Model) (u : Claim) where
   stopped-same (Refuses k p) e m n = refl
   stopped-same (Violated k s a) e m n = refl
 
-  refusal-kept : (r : Written) (v : Verdict) → accepts v ≡ false → (m : ℕ) → r ≡ answered m v → (file before : List ℕ) → before ≡ bufferOf r file before
-  unfolding answered bufferOf
-  refusal-kept r (Accepted x) e m q file before = absurd (subst T e tt)
-  refusal-kept r (Refuses k p) e m q file before = rw q
-  refusal-kept r (Violated k s a) e m q file before = rw q
-
-  pub refused : (v : Verdict) → v ≡ asideOf kind t u → accepts (asideOf kind t u) ≡ false → (r : Written) → r ≡ answered 0 v → (before : List ℕ)
-      → WrittenInto r kind t u before before
-  refused v e f r q before =
-      let g : accepts v ≡ false = ap accepts e ∙ f in
+  pub refused : (v : Verdict) → v ≡ asideOf kind t u → accepts (asideOf kind t u) ≡ false → (r : Written) → r ≡ answered 0 v → (buffer : ℕ)
+      → r ≡ writtenOf kind t u buffer
+  refused v e f r q buffer =
       let n = length (fileOf kind t u) in
-      record {
-        answer = q ∙ stopped-same v g 0 n
-            ∙ ap (answered n) (e ∙ sym (tried-stop (asideOf kind t u) (require (leb n (length before)) 35 0 ∷ []) pass f))
-            ∙ sym (written-is (length before));
-        buffer = refusal-kept r v g 0 q (fileOf kind t u) before;
-      }
+      q
+      ∙ stopped-same v (ap accepts e ∙ f) 0 n
+      ∙ ap (answered n) (e ∙ sym (tried-stop (asideOf kind t u) (require (leb n buffer) 35 0 ∷ []) pass f))
+      ∙ sym (written-is buffer)
 
-  short-is : answered (length (fileOf kind t u)) (tried (require false 35 0 ∷ []) pass) ≡ Refused 35 0
+  short-is : (n : ℕ) → answered n (tried (require false 35 0 ∷ []) pass) ≡ Refused 35 0
   unfolding answered tried then require
-  short-is = refl
+  short-is n = refl
 
-  long-is : answered (length (fileOf kind t u)) (tried (require true 35 0 ∷ []) pass) ≡ Length (length (fileOf kind t u))
+  long-is : (n : ℕ) → answered n (tried (require true 35 0 ∷ []) pass) ≡ Length n
   unfolding answered tried then require
-  long-is = refl
+  long-is n = refl
 
-  left-is : (before : List ℕ) → before ≡ bufferOf (Refused 35 0) (fileOf kind t u) before
-  unfolding bufferOf
-  left-is before = refl
-
-  put-is : (bytes : ℕ) (before : List ℕ) → overlaid (fileOf kind t u) before ≡ bufferOf (Length bytes) (fileOf kind t u) before
-  unfolding bufferOf
-  put-is bytes before = refl
-
-  module _ (p : T (accepts (asideOf kind t u))) (before : List ℕ) where
-    judged : (right : Bool) → leb (length (fileOf kind t u)) (length before) ≡ right
-        → writtenOf kind t u (length before) ≡ answered (length (fileOf kind t u)) (tried (require right 35 0 ∷ []) pass)
+  module _ (p : T (accepts (asideOf kind t u))) (buffer : ℕ) where
+    judged : (right : Bool) → leb (length (fileOf kind t u)) buffer ≡ right
+        → writtenOf kind t u buffer ≡ answered (length (fileOf kind t u)) (tried (require right 35 0 ∷ []) pass)
     judged right e =
-        written-is (length before)
+        written-is buffer
         ∙ ap (answered (length (fileOf kind t u)))
-        (tried-go (asideOf kind t u) (require (leb (length (fileOf kind t u)) (length before)) 35 0 ∷ []) pass p
+        (tried-go (asideOf kind t u) (require (leb (length (fileOf kind t u)) buffer) 35 0 ∷ []) pass p
         ∙ ap (λ (b : Bool). tried (require b 35 0 ∷ []) pass) e)
 
-    pub too-short : length before < length (fileOf kind t u) → WrittenInto (Refused 35 0) kind t u before before
-    too-short l = record { answer = sym (judged false (lt-leb (length (fileOf kind t u)) (length before) l) ∙ short-is); buffer = left-is before }
+    pub too-short : buffer < length (fileOf kind t u) → Refused 35 0 ≡ writtenOf kind t u buffer
+    too-short l = let n = length (fileOf kind t u) in sym (judged false (lt-leb n buffer l) ∙ short-is n)
 
-    pub long-enough : length (fileOf kind t u) ≤ length before → (bytes : ℕ) → bytes ≡ length (fileOf kind t u) → (after : List ℕ)
-        → after ≡ overlaid (written (sections (headerFor kind t u) t u)) before
-        → WrittenInto (Length bytes) kind t u before after
-    long-enough l bytes e after f =
-        record {
-          answer = ap Length e ∙ sym (judged true (le-leb (length (fileOf kind t u)) (length before) l) ∙ long-is);
-          buffer = f ∙ ap (λ (file : List ℕ). overlaid file before) (sym file-is) ∙ put-is bytes before;
-        }
+    pub long-enough : length (fileOf kind t u) ≤ buffer → (bytes : ℕ) → bytes ≡ length (fileOf kind t u) → Length bytes ≡ writtenOf kind t u buffer
+    long-enough l bytes e = let n = length (fileOf kind t u) in ap Length e ∙ sym (judged true (le-leb n buffer l) ∙ long-is n)
+
+  -- a length is answered only where nothing refuses
+  told : (v : Verdict) (right : Bool) (n bytes : ℕ) → answered n (tried (v ∷ require right 35 0 ∷ []) pass) ≡ Length bytes
+      → T (accepts v) × (right ≡ true) × (bytes ≡ n)
+  unfolding answered tried then require
+  told (Accepted r) true n bytes e = (tt, refl, cc)
+  told (Accepted r) false n bytes e = let z : _≡_ {A = ℕ} 0 1 = cc in absurd (omega arith)
+  told (Refuses k p) right n bytes e = let z : _≡_ {A = ℕ} 0 1 = cc in absurd (omega arith)
+  told (Violated k s a) right n bytes e = let z : _≡_ {A = ℕ} 0 1 = cc in absurd (omega arith)
+
+  pub length-told : (buffer bytes : ℕ) → writtenOf kind t u buffer ≡ Length bytes
+      → T (accepts (asideOf kind t u)) × (length (fileOf kind t u) ≤ buffer) × (bytes ≡ length (fileOf kind t u))
+  length-told buffer bytes e =
+      let n = length (fileOf kind t u) in
+      let w = told (asideOf kind t u) (leb n buffer) n bytes (sym (written-is buffer) ∙ e) in
+      (w .0, leb-true n buffer (w .1), w .2)
+
+  -- the promise, by what is answered
+  pub left : (before : List ℕ) (r : Written) → r ≡ writtenOf kind t u (length before) → (number place : ℕ) → r ≡ Refused number place → WrittenInto r kind t u before before
+  unfolding bufferOf
+  left before r e number place q = record { answer = e; buffer = rw q }
+
+  pub put-in : (before : List ℕ) (bytes : ℕ) → Length bytes ≡ writtenOf kind t u (length before) → (after : List ℕ)
+      → (h : Header) → h ≡ headerFor kind t u → after ≡ overlaid (written (sections h (modelled h) (claimed h))) before → WrittenInto (Length bytes) kind t u before after
+  unfolding bufferOf
+  put-in before bytes e after h p q =
+      record {
+        answer = e;
+        buffer = q
+            ∙ ap (λ (x : Header). overlaid (written (sections x (modelled x) (claimed x))) before) p
+            ∙ ap (λ (file : List ℕ). overlaid file before) (sym file-is);
+      }

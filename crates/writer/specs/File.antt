@@ -17,8 +17,11 @@ use Rattle.writer.specs.declared.Written.{Written}
 use Rattle.writer.specs.declared.Written.the-variants.{Length, Refused}
 
 -- what the file says before its tables
+abbrev pub header : (kind d c n m b : ℕ) → Header
+header kind d c n m b = record { kind = kind; d = d; c = c; n = n; m = m; b = b }
+
 abbrev pub headerFor : ℕ → Model → Claim → Header
-headerFor kind t u = record { kind = kind; d = t .d; c = u .c; n = states t; m = actions t; b = branches t }
+headerFor kind t u = header kind (t .d) (u .c) (states t) (actions t) (branches t)
 
 -- the number of bytes after it; the version; the kind; D, C, n, m and b
 abbrev pub heads : Header → List (List ℕ)

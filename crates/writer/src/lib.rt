@@ -1,10 +1,11 @@
 // The certificate file of document 01, written into a lent buffer.
 ghost use mathlib.Core.Path.{_≡_};
+ghost use Prim.Native.Nat.{_-_, _≤_, _<_, _^_};
 ghost use Rattle.walk.specs.Put.{Put};
 ghost use Rattle.model.specs.Tables.{modelOf, claimOf};
 ghost use Rattle.wire.specs.Sections.{sectionsOf, written};
 ghost use Rattle.certfile.specs.File.{headerBlocks};
-ghost use Rattle.writer.specs.File.{heads, sections, answered, overlaid, WrittenInto};
+ghost use Rattle.writer.specs.File.{header, heads, sections, answered, writtenOf, overlaid, WrittenInto};
 ghost use Rattle.writer.specs.Room.{HeadRoom, Room};
 use certfile::Header;
 use model::Verdict;
@@ -21,6 +22,21 @@ pub struct WriteRefusal {}
 
 impl WriteRefusal {
     pub const BUFFER: u32 = 35;
+}
+
+// What a file says before its tables, by the lengths of tables 1, 3 and 4.
+fn header(kind: u32, d: u32, c: u32, n: usize, starts: usize, b: usize) -> Header
+    requires { ⌜ (n < 2 ^ 32) × ((1 ≤ starts) × ((starts ≤ 2 ^ 32) × (b < 2 ^ 32))) ⌝ }
+    ensures { λ r. ⌜ r ≡ header kind d c n (starts - 1) b ⌝ }
+{
+    Header {
+        kind,
+        d,
+        c,
+        n: n as u32,
+        m: (starts - 1) as u32,
+        b: b as u32,
+    }
 }
 
 // The header of a file of so many bytes.
@@ -82,9 +98,9 @@ fn answered(bytes: usize, v: Verdict) -> Written
     }
 }
 
-// Writes the file that the lent tables make into a lent buffer and answers its length, or the first refusal, which writes nothing:
-// 1 to 14 as the checker gives them, with the choice list aside, and then 35.
-pub fn write(
+// What writing the file into a buffer of so many bytes would answer: its length, or the first refusal: 1 to 14 as the checker gives
+// them, with the choice list aside, and then 35.
+pub fn preview(
     kind: u32,
     d: u32,
     c: u32,
@@ -96,9 +112,9 @@ pub fn write(
     costs: &[u32],
     claims: &[u64],
     ranks: &[u32],
-    buffer: &mut [u8],
+    buffer: usize,
 ) -> Written
-    ensures { λ r. ⌜ WrittenInto r kind (modelOf d (now (marks .entry)) (now («action_starts» .entry)) (now («branch_starts» .entry)) (now (destinations .entry)) (now (weights .entry))) (claimOf c (now (costs .entry)) (now (claims .entry)) (now (ranks .entry))) (now (buffer .entry)) (now (buffer .exit)) ⌝ }
+    ensures { λ r. ⌜ r ≡ writtenOf kind (modelOf d (now (marks .entry)) (now («action_starts» .entry)) (now («branch_starts» .entry)) (now (destinations .entry)) (now (weights .entry))) (claimOf c (now (costs .entry)) (now (claims .entry)) (now (ranks .entry))) buffer ⌝ }
 {
     let chosen = model::choice_count(kind, marks.len());
     let v = checker::refuse(
@@ -118,23 +134,66 @@ pub fn write(
     if !v.accepts() {
         return answered(0, v);
     }
-    let h = Header {
+    let bytes = certfile::length_of(header(
         kind,
         d,
         c,
-        n: marks.len() as u32,
-        m: (branch_starts.len() - 1) as u32,
-        b: destinations.len() as u32,
-    };
-    let bytes = certfile::length_of(h);
-    if buffer.len() < bytes {
+        marks.len(),
+        branch_starts.len(),
+        destinations.len(),
+    ));
+    if buffer < bytes {
         return Written::Refused {
             number: WriteRefusal::BUFFER,
             place: 0,
         };
     }
+    Written::Length { bytes }
+}
+
+// Writes the file that the lent tables make into a lent buffer and answers its length, or the first refusal, which writes nothing.
+pub fn write(
+    kind: u32,
+    d: u32,
+    c: u32,
+    marks: &[u8],
+    action_starts: &[u32],
+    branch_starts: &[u32],
+    destinations: &[u32],
+    weights: &[u32],
+    costs: &[u32],
+    claims: &[u64],
+    ranks: &[u32],
+    buffer: &mut [u8],
+) -> Written
+    ensures { λ r. ⌜ WrittenInto r kind (modelOf d (now (marks .entry)) (now («action_starts» .entry)) (now («branch_starts» .entry)) (now (destinations .entry)) (now (weights .entry))) (claimOf c (now (costs .entry)) (now (claims .entry)) (now (ranks .entry))) (now (buffer .entry)) (now (buffer .exit)) ⌝ }
+{
+    let written = preview(
+        kind,
+        d,
+        c,
+        marks,
+        action_starts,
+        branch_starts,
+        destinations,
+        weights,
+        costs,
+        claims,
+        ranks,
+        buffer.len(),
+    );
+    let Written::Length { bytes } = written else {
+        return written;
+    };
     put(
-        h,
+        header(
+            kind,
+            d,
+            c,
+            marks.len(),
+            branch_starts.len(),
+            destinations.len(),
+        ),
         bytes,
         marks,
         action_starts,

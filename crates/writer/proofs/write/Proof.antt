@@ -1,12 +1,12 @@
--- `writer::write` meets its contract: refused, too short, or written. Assumes nothing.
-use mathlib.Core.Path.{sym, _∙_}
+-- `writer::write` meets its contract: what would be answered is answered, and the file is put only then. Assumes nothing.
+use mathlib.Core.Path.{_≡_, sym, _∙_}
 use native.Mathlib.Omega.{arith}
-use lib.Dec.{T}
+use lib.ListN.{length}
 use borrow.Author.Needs.{needs}
 use Rattle.model.specs.Tables.{Model, Claim, modelOf, claimOf}
-use Rattle.model.specs.Checked.{accepts, asideOf}
-use Rattle.model.proofs.Tried.{goes, stops}
-use Rattle.writer.proofs.Judged.{aside-is, well-formed, file-size, room, refused, too-short, long-enough}
+use Rattle.writer.specs.declared.Written.the-variants.{Length}
+use Rattle.writer.specs.File.{writtenOf}
+use Rattle.writer.proofs.Judged.{length-told, countable, room, left, put-in}
 use Rattle.writer.proofs.write.Statement.{statement}
 use Rattle.writer.proofs.write.Tie as tie
 
@@ -18,50 +18,25 @@ abbrev u : tie.Start → Claim
 u c = claimOf (c .args .c) (c .args .costs .now) (c .args .claims .now) (c .args .ranks .now)
 
 returns : tie.Need-returns
-returns c =
-    let s = c .before .before .before .before .before .before .before .before .before .before .before .before .before .before in
-    let e = c .before .before .before .refuse .ensures ∙ aside-is _ (t s) (u s) _ (c .before .before .before .before .choice-count .ensures) in
-    refused _ (t s) (u s) _ e (stops (c .before .before .accepts .ensures) (c .before .if1 .taken) e) _ (c .answered .ensures) _
+returns c = left _ _ _ _ _ (c .before .before .preview .ensures) _ _ (c .enum-told .given .1)
 
--- 1 to 14 do not refuse
-passed : (c : tie.Else1) → let s = c .before .before .before .before .before .before .before .before .before .before .before .before .before in T (accepts (asideOf (s .args .kind) (t s) (u s)))
-passed c =
-    let s = c .before .before .before .before .before .before .before .before .before .before .before .before .before in
-    goes (c .before .accepts .ensures) (c .if1 .left) (c .before .before .refuse .ensures ∙ aside-is _ (t s) (u s) _ (c .before .before .before .choice-count .ensures))
+-- a length was answered
+told : (c : tie.After-known-told) → let s = c .before .before .before .before .before .before .before .before .before .before .before .before .before in writtenOf (s .args .kind) (t s) (u s) (length (s .args .buffer .now)) ≡ Length (c .before .written .given .0 .0)
+told c = sym (c .before .before .before .preview .ensures) ∙ c .before .written .given .1
 
-cast-t20 : tie.Need-cast-t20
-cast-t20 c = let s = c .before .before .before .before .before .before .before .before .before .before .before .before .before in omega (arith, well-formed _ (t s) (u s) (passed c) .sized .n-most)
-
-sub-t22 : tie.Need-sub-t22
-sub-t22 c = let s = c .before .before .before .before .before .before .before .before .before .before .before .before .before in omega (arith, well-formed _ (t s) (u s) (passed c) .sized .table3-least)
-
-cast-t23 : tie.Need-cast-t23
-cast-t23 c = let s = c .before .before .before .before .before .before .before .before .before .before .before .before .before in omega (arith, well-formed _ (t s) (u s) (passed c) .sized .table3-most)
-
-cast-t25 : tie.Need-cast-t25
-cast-t25 c = let s = c .before .before .before .before .before .before .before .before .before .before .before .before .before in omega (arith, well-formed _ (t s) (u s) (passed c) .sized .table4)
-
-returns-2 : tie.Need-returns-2
-returns-2 c =
-    let s = c .before .before .before .before .before .before .before .before .before .before .before .before .before .before .before in
-    let p = passed (c .before .before) in
-    too-short _ (t s) (u s) p _ (omega (arith, c .if2 .taken, c .before .length-of .ensures, file-size _ (t s) (u s) p))
+header-requires : tie.Need-header-requires
+header-requires c κs = let s = c .before .before .before .before .before .before .before .before .before .before .before .before .before in countable _ (t s) (u s) (length-told _ (t s) (u s) _ _ (told c) .0)
 
 put-requires : tie.Need-put-requires
 put-requires c κs =
-    let s = c .before .before .before .before .before .before .before .before .before .before .before .before .before .before .before .before in
-    room _ (t s) (u s) (passed (c .before .before .before)) _ _ (c .before .before .length-of .ensures) (c .before .if2 .left)
+    let s = c .before .before .before .before .before .before .before .before .before .before .before .before .before .before .before in
+    let w = length-told _ (t s) (u s) _ _ (told (c .before .before)) in
+    room _ (t s) (u s) (w .0) _ (c .before .header .ensures) _ _ (w .2) (omega (arith, w .1, w .2))
 
-returns-3 : tie.Need-returns-3
-returns-3 c =
-    let s = c .before .before .before .before .before .before .before .before .before .before .before .before .before .before .before .before .before .before .before in
-    let p = passed (c .before .before .before .before .before .before) in
-    let e = c .before .before .before .before .before .length-of .ensures in
-    let n = file-size _ (t s) (u s) p in
-    long-enough _ (t s) (u s) p _ (omega (arith, c .before .before .before .before .if2 .left, e, n)) _ (e ∙ sym n) _ (c .before .before .put .ensures)
+returns-2 : tie.Need-returns-2
+returns-2 c = put-in _ _ _ _ _ (sym (told (c .before .before .before .before .before))) _ _ (c .before .before .before .before .header .ensures) (c .before .before .put .ensures)
 
 pub write-spec : {M : Type 1} → statement M
 write-spec =
     tie.close
-    (tie.spec (λ c κs. search needs) (λ c κs. search needs) (λ c κs. search needs) (λ c κs. search needs) returns cast-t20 sub-t22 cast-t23 cast-t25
-    (λ c κs. search needs) returns-2 put-requires (λ c. search needs) returns-3)
+    (tie.spec (λ c κs. search needs) (λ c. search needs) (λ c. search needs) returns header-requires put-requires (λ c. search needs) returns-2)
