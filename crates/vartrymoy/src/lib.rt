@@ -1,4 +1,4 @@
-// The library to link: document 01's check and reader for C and whatever calls C, in numbers and lists of numbers.
+// The library to link: document 01's check, reader and writer for C and whatever calls C, in numbers and lists of numbers.
 ghost use mathlib.Core.Path.{_≡_};
 ghost use mathlib.Core.List.{[], _∷_};
 ghost use Prim.Native.Nat.{_≤_};
@@ -9,12 +9,14 @@ ghost use Rattle.model.specs.declared.answers.Verdict.{Verdict};
 ghost use Rattle.certfile.specs.Tables.{tables};
 ghost use Rattle.vartrymoy.specs.Exported.{numbersOf, CheckedInto};
 ghost use Rattle.vartrymoy.specs.Filled.{numberOr, headerAfter, FileReadInto};
+ghost use Rattle.vartrymoy.specs.Written.{writtenOr, pairOf, FileWrittenInto};
 use certfile::Lengths;
 use certfile::Outcome;
 use model::Answer;
 use model::Rank;
 use model::Refusal;
 use model::Verdict;
+use writer::Written;
 
 // The four numbers of an answer, and the length of the list that takes them.
 pub struct Numbers {
@@ -212,4 +214,92 @@ pub extern "C" fn vartrymoy_read(
     );
     put_header(outcome, header);
     number_or(outcome, 0)
+}
+
+// The length of the list that takes what writing answers.
+pub struct ResultList {}
+
+impl ResultList {
+    pub const COUNT: usize = 2;
+}
+
+// The number of a refusal, or this one where a file is written.
+fn written_or(w: Written, written: u32) -> u32
+    ensures { λ r. ⌜ r ≡ writtenOr written w ⌝ }
+{
+    match w {
+        Written::Length { bytes: _ } => written,
+        Written::Refused { number, place: _ } => number,
+    }
+}
+
+// Writes what writing answered into a list of two.
+fn put_pair(w: Written, result: &mut [u64])
+    requires { ⌜ length (now result) ≡ 2 ⌝ }
+    ensures { λ _. ⌜ now (result .exit) ≡ pairOf w ⌝ }
+{
+    match w {
+        Written::Length { bytes } => {
+            result[0] = 0;
+            result[1] = bytes as u64;
+        }
+        Written::Refused { number, place } => {
+            result[0] = number as u64;
+            result[1] = place as u64;
+        }
+    }
+}
+
+// Writes the file that the lent tables make into a lent buffer, as writer::write does, and answers 0 or the number of the refusal.
+#[no_mangle]
+pub extern "C" fn vartrymoy_write(
+    kind: u32,
+    d: u32,
+    c: u32,
+    marks: &[u8],
+    action_starts: &[u32],
+    branch_starts: &[u32],
+    destinations: &[u32],
+    weights: &[u32],
+    costs: &[u32],
+    claims: &[u64],
+    ranks: &[u32],
+    buffer: &mut [u8],
+    result: &mut [u64],
+) -> u32
+    ensures { λ r. ⌜ FileWrittenInto kind (modelOf d (now (marks .entry)) (now («action_starts» .entry)) (now («branch_starts» .entry)) (now (destinations .entry)) (now (weights .entry))) (claimOf c (now (costs .entry)) (now (claims .entry)) (now (ranks .entry))) (now (buffer .entry)) (now (result .entry)) r (now (buffer .exit)) (now (result .exit)) ⌝ }
+{
+    if result.len() != ResultList::COUNT {
+        let would = writer::preview(
+            kind,
+            d,
+            c,
+            marks,
+            action_starts,
+            branch_starts,
+            destinations,
+            weights,
+            costs,
+            claims,
+            ranks,
+            buffer.len(),
+        );
+        return written_or(would, Refusal::LENGTH);
+    }
+    let written = writer::write(
+        kind,
+        d,
+        c,
+        marks,
+        action_starts,
+        branch_starts,
+        destinations,
+        weights,
+        costs,
+        claims,
+        ranks,
+        buffer,
+    );
+    put_pair(written, result);
+    written_or(written, 0)
 }

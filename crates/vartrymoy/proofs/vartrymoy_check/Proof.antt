@@ -40,7 +40,7 @@ module _ (kind : ℕ) (t : Model) (u : Claim) (before answer : List ℕ) where
       }
 
 returns : tie.Need-returns
-returns c = shut _ _ _ _ _ (c .before .before .before .if1 .taken) _ _ (c .before .refuse .ensures) (c .unanswered .ensures)
+returns c = shut _ _ _ _ _ (c .before .before .if1 .taken) _ _ (c .before .refuse .ensures) (c .unanswered .ensures)
 
 returns-2 : tie.Need-returns-2
 returns-2 c = answered _ _ _ _ _ (c .before .before .before .before .before .before .before .before .if1 .left) _ _ _ _ (c .before .before .before .before .before .before .check .ensures) (c .before .before .put .ensures .0) (c .before .before .put .ensures .1)
@@ -48,5 +48,5 @@ returns-2 c = answered _ _ _ _ _ (c .before .before .before .before .before .bef
 pub vartrymoy-check-spec : {M : Type 1} → statement M
 vartrymoy-check-spec =
     tie.close
-    (tie.spec (λ c κs. search needs) (λ c κs. search needs) (λ c. search needs) returns (λ c κs. search needs) (λ c κs. c .before .before .before .before .before .if1 .left) (λ c. search needs)
+    (tie.spec (λ c κs. search needs) (λ c κs. search needs) returns (λ c κs. search needs) (λ c κs. c .before .before .before .before .before .if1 .left) (λ c. search needs)
     (λ c. search needs) returns-2)
