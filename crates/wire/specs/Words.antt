@@ -13,10 +13,14 @@ unfoldable pub bytes : ℕ → ℕ → List ℕ
 bytes zero x = []
 bytes (suc width) x = x / 256 ^ width % 256 ∷ bytes width x
 
--- the same number with the lowest byte first
+-- the same with the lowest byte first
 unfoldable pub little : ℕ → List ℕ → ℕ → ℕ
 little zero file at = 0
 little (suc width) file at = getD file at 0 + 256 * little width file (at + 1)
+
+unfoldable pub littleBytes : ℕ → ℕ → List ℕ
+littleBytes zero x = []
+littleBytes (suc width) x = x % 256 ∷ littleBytes width (x / 256)
 
 -- the four bytes of a number in the other order
 unfoldable pub reversed : ℕ → ℕ

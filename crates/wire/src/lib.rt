@@ -4,7 +4,7 @@ ghost use Prim.Native.Nat.{_+_, _*_, _≤_};
 ghost use lib.ListN.{length};
 ghost use mathlib.Core.List.{[], _∷_};
 ghost use Rattle.walk.specs.Put.{Put};
-ghost use Rattle.wire.specs.Words.{word, bytes, little, reversed};
+ghost use Rattle.wire.specs.Words.{word, bytes, little, littleBytes, reversed};
 ghost use Rattle.wire.specs.Blocks.{blockOf, overwritten};
 ghost use Rattle.wire.specs.Sections.{spelled};
 
@@ -128,16 +128,24 @@ pub fn copy8(file: &mut [u8], at: usize, table: &[u8]) -> usize
     at + i
 }
 
+// Four bytes of a number, the lowest first. With the swap a function of its own, a run of words is compiled to wide stores.
+fn put_little32(file: &mut [u8], at: usize, x: u32) -> usize
+    requires { ⌜ at + 4 ≤ length (now file) ⌝ }
+    ensures { λ r. ⌜ Put (now (file .entry)) (now (file .exit)) at r (littleBytes 4 x) ⌝ }
+{
+    file[at] = (x % SECOND) as u8;
+    file[at + 1] = (x / SECOND % SECOND) as u8;
+    file[at + 2] = (x / THIRD % SECOND) as u8;
+    file[at + 3] = (x / FOURTH) as u8;
+    at + Width::WORD
+}
+
 // A number in four bytes, and one in eight.
 pub fn put32(file: &mut [u8], at: usize, x: u32) -> usize
     requires { ⌜ at + 4 ≤ length (now file) ⌝ }
     ensures { λ r. ⌜ Put (now (file .entry)) (now (file .exit)) at r (bytes 4 x) ⌝ }
 {
-    file[at] = (x / FOURTH) as u8;
-    file[at + 1] = (x / THIRD % SECOND) as u8;
-    file[at + 2] = (x / SECOND % SECOND) as u8;
-    file[at + 3] = (x % SECOND) as u8;
-    at + Width::WORD
+    put_little32(file, at, swapped(x))
 }
 
 pub fn put64(file: &mut [u8], at: usize, x: u64) -> usize

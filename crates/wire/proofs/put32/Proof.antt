@@ -1,25 +1,15 @@
--- `wire::put32` meets its contract: four stores. Assumes nothing.
+-- `wire::put32` meets its contract: the swapped number is stored the lowest byte first. Assumes nothing.
+use mathlib.Core.Path.{ap, _∙_}
 use borrow.Author.Needs.{needs}
-use native.Mathlib.Omega.{arith}
-use lib.ListN.{length-set}
-use Rattle.wire.proofs.Parts.{put-four}
+use Rattle.walk.proofs.Putting.{put-same}
+use Rattle.wire.specs.Words.{littleBytes}
+use Rattle.wire.proofs.Parts.{turned-bytes}
 use Rattle.wire.proofs.put32.Statement.{statement}
 use Rattle.wire.proofs.put32.Tie as tie
 
-slice-write-file-2 : tie.Need-slice-write-file-2
-slice-write-file-2 c = simp length-set (omega arith)
-
-slice-write-file-3 : tie.Need-slice-write-file-3
-slice-write-file-3 c = simp length-set (omega arith)
-
-slice-write-file-4 : tie.Need-slice-write-file-4
-slice-write-file-4 c = simp length-set (omega arith)
-
 returns : tie.Need-returns
-returns c = put-four _ _ _ (search needs)
+returns c =
+    put-same (c .before .before .put-little32 .ensures) (ap (littleBytes 4) (c .before .before .before .swapped .ensures) ∙ turned-bytes (c .before .before .before .before .before .before .args .x) (search needs))
 
 pub put32-spec : {M : Type 1} → statement M
-put32-spec =
-    tie.close
-    (tie.spec (λ c. search needs) (λ c. search needs) (λ c. search needs) (λ c. search needs) slice-write-file-2 (λ c. search needs)
-    (λ c. search needs) slice-write-file-3 (λ c. search needs) (λ c. search needs) slice-write-file-4 (λ c. search needs) (λ c. search needs) returns)
+put32-spec = tie.close (tie.spec (λ c κs. search needs) (λ c κs. search needs) (λ c. search needs) returns)
