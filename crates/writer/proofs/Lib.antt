@@ -1,1 +1,3 @@
 pub mod Measured
+pub mod Fits
+pub mod GivenBack
