@@ -76,10 +76,6 @@ version-right : (file : List ℕ) → word 1 file (place headerBlocks 1) ≡ 1 �
 unfolding versionRight
 version-right file e = eq-eqb (word 1 file (place headerBlocks 1)) 1 e
 
-file-is : (kind : ℕ) (t : Model) (u : Claim) → fileOf kind t u ≡ written (sections (headerFor kind t u) t u)
-unfolding fileOf
-file-is kind t u = refl
-
 module _ (kind : ℕ) (t : Model) (u : Claim) (w : Writable kind t u) where
   abbrev h : Header
   h = headerFor kind t u
@@ -95,9 +91,10 @@ module _ (kind : ℕ) (t : Model) (u : Claim) (w : Writable kind t u) where
 
   -- each section is read back
   held : (i : ℕ) → numbers (block (blocks h) i) file (place (blocks h) i) ≡ section parts i .numbers
+  unfolding fileOf
   held i =
       ap₂ (λ (bs : List Block) (f : List ℕ). numbers (block bs i) f (place bs i))
-      (sym (blocks-filled kind t u _ s)) (file-is kind t u ∙ sym (append-nil (written parts)))
+      (sym (blocks-filled kind t u _ s)) (sym (append-nil (written parts)))
       ∙ ap (numbers (block (blocksOf parts) i) (written parts ++ [])) (omega arith)
       ∙ read-written parts (fits kind t u _ (w .formed) (w .known)) [] [] i
 

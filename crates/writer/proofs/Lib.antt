@@ -1,3 +1,4 @@
 pub mod Measured
 pub mod Fits
 pub mod GivenBack
+pub mod SameBytes
