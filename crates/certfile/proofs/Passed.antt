@@ -48,19 +48,39 @@ inside : (h : Header) (file : List ℕ) → lengthRight h file ≡ true → (i :
 unfolding lengthRight tablePlace
 inside h file e i = omega (arith, eqb-true (length file) (size (blocks h)) e, block-within (announced h) i)
 
-module _ (l file : List ℕ) (h : Header) (e : outcomeOf l file ≡ Read h) where
-  last : (countsRight h l ≡ true) × (lengthRight h file ≡ true)
-  last =
-      let a = through (lengthFieldRight file) 31 (from-32 l file) h (sym (judged l file) ∙ e) .1 in
-      let b = through (versionRight file) 32 (from-1 l file) h a .1 in
-      let c = through (isKind (headerOf file .kind)) 1 (from-33 l file) h b .1 in
-      let d = through (countsRight (headerOf file) l) 33 (from-34 l file) h c in
+-- what a file that is read has passed
+pub record Passed (l file : List ℕ) (h : Header) : Type 0 where
+  pub header : headerOf file ≡ h
+  pub field : lengthFieldRight file ≡ true
+  pub version : versionRight file ≡ true
+  pub kind : isKind (h .kind) ≡ true
+  pub counts : countsRight h l ≡ true
+  pub long : lengthRight h file ≡ true
+
+-- it is read exactly where it passed
+module _ (l file : List ℕ) (h : Header) where
+  pub of-passed : Passed l file h → outcomeOf l file ≡ Read h
+  of-passed p = judged l file ∙ rw (p .field, p .version, p .header, p .kind, p .counts, p .long)
+
+  pub passed : outcomeOf l file ≡ Read h → Passed l file h
+  passed e =
+      let a = through (lengthFieldRight file) 31 (from-32 l file) h (sym (judged l file) ∙ e) in
+      let b = through (versionRight file) 32 (from-1 l file) h (a .1) in
+      let c = through (isKind (headerOf file .kind)) 1 (from-33 l file) h (b .1) in
+      let d = through (countsRight (headerOf file) l) 33 (from-34 l file) h (c .1) in
       let f = through (lengthRight (headerOf file) file) 34 (Read (headerOf file)) h (d .1) in
       let g : headerOf file ≡ h = is-read _ _ (f .1) in
-      (subst (λ (x : Header). countsRight x l ≡ true) g (d .0), subst (λ (x : Header). lengthRight x file ≡ true) g (f .0))
+      record {
+        header = g;
+        field = a .0;
+        version = b .0;
+        kind = subst (λ (x : Header). isKind (x .kind) ≡ true) g (c .0);
+        counts = subst (λ (x : Header). countsRight x l ≡ true) g (d .0);
+        long = subst (λ (x : Header). lengthRight x file ≡ true) g (f .0);
+      }
 
-  pub ready : (i : ℕ) → (tablePlace h i + block (announced h) i .count * block (announced h) i .width ≤ length file) × (block (announced h) i .count ≤ getD l i 0)
-  ready i = (inside h file (last .1) i, room-at (announced h) l (all-roomy h l (last .0)) i)
+  pub ready : outcomeOf l file ≡ Read h → (i : ℕ) → (tablePlace h i + block (announced h) i .count * block (announced h) i .width ≤ length file) × (block (announced h) i .count ≤ getD l i 0)
+  ready e i = (inside h file (passed e .long) i, room-at (announced h) l (all-roomy h l (passed e .counts)) i)
 
 -- what each fill asks, at a table's place and number of entries
 pub record Rooms (place count : Lengths) (file : List ℕ) (t : Tables) : Type 0 where

@@ -9,7 +9,7 @@ use lib.Arith.{digits-lt, digits-div, mod-mul}
 use lib.ListN.{length, getD, take, drop, length-append}
 use lib.Seq.{drop-cons, drop-drop, take-add, getD-append-seam}
 use Rattle.walk.specs.Fold.{listed}
-use Rattle.walk.proofs.Fold.{down, listed-end, listed-step, listed-length}
+use Rattle.walk.proofs.Fold.{down, listed-end, listed-step, listed-length, listed-at}
 use Rattle.wire.specs.Words.{word, bytes}
 use Rattle.wire.specs.Blocks.{Block, blockOf, size, place, block, numbers}
 use Rattle.wire.specs.Sections.{Section, filled, spelled, written, blocksOf, section, sectionsIn}
@@ -20,7 +20,7 @@ use Rattle.wire.proofs.Spelled.{bytes-length, spelled-length}
 power : (width : ℕ) → 256 ^ suc width ≡ 256 * 256 ^ width
 power width = pow-suc 256 width ∙ mul-comm (256 ^ width) 256
 
-power-pos : (width : ℕ) → 0 < 256 ^ width
+pub power-pos : (width : ℕ) → 0 < 256 ^ width
 power-pos width = one-le-pow width 256 (zero-lt-suc 255)
 
 -- the first part of what follows goes to what stands before
@@ -88,6 +88,11 @@ numbers-more width count file at =
 pub numbers-length : (x : Block) (file : List ℕ) (at : ℕ) → length (numbers x file at) ≡ x .count
 unfolding numbers
 numbers-length x file at = listed-length (λ i. word (x .width) file (at + i * x .width)) (x .count) 0 ∙ omega arith
+
+-- number j of a block is the word at its place
+pub numbers-at : (x : Block) (file : List ℕ) (at j : ℕ) → j < x .count → getD (numbers x file at) j 0 ≡ word (x .width) file (at + j * x .width)
+unfolding numbers
+numbers-at x file at j h = listed-at (λ i. word (x .width) file (at + i * x .width)) 0 (x .count) 0 j (omega arith) ∙ ap (word (x .width) file) (omega arith)
 
 pub numbers-spelled : (width : ℕ) (xs before after : List ℕ) → ((j : ℕ) → getD xs j 0 < 256 ^ width) → numbers (blockOf width (length xs)) (before ++ (spelled width xs ++ after)) (length before) ≡ xs
 unfolding spelled

@@ -2,7 +2,7 @@
 use mathlib.Core.Path.{_≡_, refl, sym, ap, subst, _∙_}
 use mathlib.Core.Bool.{Bool, true, false, _&&_}
 use mathlib.Core.List.{List, [], _∷_, _++_}
-use Prim.Native.Nat.{ℕ, _+_, _-_, _*_, _≤_, _<_, _^_}
+use Prim.Native.Nat.{ℕ, _≤_, _<_, _^_}
 use native.Mathlib.Omega.{arith}
 use lib.Dec.{T, leb}
 use lib.ListN.{length}
@@ -13,7 +13,7 @@ use Rattle.model.specs.declared.answers.Verdict.the-variants.{Accepted, Refused
 use Rattle.model.specs.Kinds.{isKind, kindOf}
 use Rattle.model.specs.Tables.{Model, Claim, modelOf, claimOf, states}
 use Rattle.model.specs.Answers.{pass, then, tried, require}
-use Rattle.model.specs.Refusals.{entries, choiceCount, kindTest, tests}
+use Rattle.model.specs.Refusals.{choiceCount, kindTest, tests}
 use Rattle.model.specs.Checked.{accepts, refusalOf, asideOf}
 use Rattle.model.specs.WellFormed.{WellFormed}
 use Rattle.model.proofs.Tried.{then-passed, then-stopped, then-first, then-second, tried-all, tried-go, tried-stop, require-right, right-require, wrong-require}
@@ -21,17 +21,14 @@ use Rattle.model.proofs.Formed.{formed}
 use Rattle.wire.specs.Blocks.{size}
 use Rattle.wire.specs.Sections.{written}
 use Rattle.certfile.specs.declared.Header.{Header}
-use Rattle.certfile.specs.File.{announced, blocks}
+use Rattle.certfile.specs.File.{blocks}
 use Rattle.writer.specs.declared.Written.{Written}
 use Rattle.writer.specs.declared.Written.the-variants.{Length, Refused}
 use Rattle.writer.specs.File.{headerFor, sections, fileOf, bufferTest, writeTests, answered, writtenOf, overlaid, bufferOf, WrittenInto}
 use Rattle.writer.specs.Room.{Room}
 use Rattle.writer.proofs.Measured.{file-length}
+use Rattle.writer.proofs.Fits.{size-fits}
 use Rattle.writer.proofs.Laid.{header-bytes, whole-length}
-
-at-most : (has : Bool) (n : ℕ) → entries has n ≤ n
-at-most true n = omega arith
-at-most false n = omega arith
 
 module _ (kind : ℕ) (t : Model) (u : Claim) where
   pub aside-is : (chosen : ℕ) → chosen ≡ choiceCount kind (states t) → refusalOf kind t u chosen ≡ asideOf kind t u
@@ -69,12 +66,10 @@ module _ (kind : ℕ) (t : Model) (u : Claim) where
 
     -- no part of the file is too large for its number
     pub few : (kind < 256) × (size (blocks (headerFor kind t u)) < 2 ^ 32)
-    unfolding blocks announced size
-    few =
-        let s = well-formed .sized in (
-          omega (arith, leb-true kind 8 (is-true (leb kind 8) (and-right (leb 1 kind) (leb kind 8) (holds is-kind)))),
-          omega (arith, s .n-most, s .table3-most, s .table4, at-most (kindOf kind .costs) (states t), at-most (kindOf kind .ranks) (states t)),
-        )
+    few = (
+      omega (arith, leb-true kind 8 (is-true (leb kind 8) (and-right (leb 1 kind) (leb kind 8) (holds is-kind)))),
+      size-fits kind t u (choiceCount kind (states t)) well-formed,
+    )
 
     -- and so its header can be made
     pub countable : (states t < 2 ^ 32) × ((1 ≤ length (t .branchStarts)) × ((length (t .branchStarts) ≤ 2 ^ 32) × (length (t .destinations) < 2 ^ 32)))
