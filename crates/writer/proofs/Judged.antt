@@ -156,7 +156,7 @@ module _ (kind : ℕ) (t : Model) (u : Claim) where
   -- the promise, by what is answered
   pub left : (before : List ℕ) (r : Written) → r ≡ writtenOf kind t u (length before) → (number place : ℕ) → r ≡ Refused number place → WrittenInto r kind t u before before
   unfolding bufferOf
-  left before r e number place q = record { answer = e; buffer = rw q }
+  left before r e number place q = record { answer = e; buffer = sym (ap (λ (x : Written). bufferOf x (fileOf kind t u) before) q) }
 
   pub put-in : (before : List ℕ) (bytes : ℕ) → Length bytes ≡ writtenOf kind t u (length before) → (after : List ℕ)
       → (h : Header) → h ≡ headerFor kind t u → after ≡ overlaid (written (sections h (modelled h) (claimed h))) before → WrittenInto (Length bytes) kind t u before after
