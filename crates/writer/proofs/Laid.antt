@@ -141,4 +141,4 @@ module _ (h : Header) (t : Model) (u : Claim) where
       let all = put-same (put-then p₁ (put-then p₂ (put-then p₃ (put-then p₄ (put-then p₅ (put-then p₆ (put-then p₇ (put-then p₈ p₉))))))))
       (sym (parts ∙ rw (bytes-spelled (t .marks) m, append-nil (spelled 4 (u .ranks))))) in
       let e = put-whole all (omega (arith, all .next)) in
-      e .1 ∙ rw (e .0)
+      e .1 ∙ ap (λ (n : ℕ). written (sections h t u) ++ drop n file) (e .0)
