@@ -1,6 +1,5 @@
 -- The small models that document 01 works out, and all its cases in one table.
 use Prim.Native.Nat.{ℕ}
-use mathlib.Core.Bool.{Bool, true, false}
 use mathlib.Core.List.{List, [], _∷_}
 use lib.ListN.{set}
 use Rattle.model.specs.declared.answers.Verdict.{Verdict}

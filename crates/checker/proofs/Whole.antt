@@ -2,7 +2,7 @@
 use mathlib.Core.Path.{_≡_, refl, sym, ap, fun-ext, _∙_}
 use mathlib.Core.Bool.{Bool, true, false, cond, not, _&&_}
 use mathlib.Core.List.{List, [], _∷_, _++_}
-use Prim.Native.Nat.{ℕ, _≤_, _<_, _^_, zero-le}
+use Prim.Native.Nat.{ℕ, _<_, _^_, zero-le}
 use native.Mathlib.Nat.{le-refl}
 use native.Mathlib.Omega.{arith}
 use lib.Dec.{T}
@@ -24,7 +24,8 @@ use Rattle.model.specs.WellFormed.{Sized}
 use Rattle.model.specs.Conditions.{judged}
 use Rattle.model.specs.Checked.{accepts, greatestRank, conditions, verdictOf, refusalOf, answerOf, choice, chosenOf, choicesOf}
 use Rattle.model.proofs.Tried.{tried-append, tried-all, then-passed, then-stopped, then-assoc, each-all}
-use Rattle.model.proofs.Formed.{sized, formed}
+use Rattle.model.proofs.Formed.{entries-most, sized, formed}
+use Rattle.model.proofs.Known.{named, unnamed}
 use Rattle.rows.specs.Fitting.{Fitting}
 use Rattle.actions.specs.Ready.{Ready}
 use Rattle.conditions.specs.Judging.{picked, broken, roomOf}
@@ -36,10 +37,6 @@ tried-then : (xs : List Verdict) (v : Verdict) → tried xs v ≡ then (tried xs
 unfolding tried then
 tried-then [] v = refl
 tried-then (x ∷ xs) v = ap (then x) (tried-then xs v) ∙ sym (then-assoc x (tried xs pass) v)
-
-pub at-most : (b : Bool) (n : ℕ) → entries b n ≤ n
-at-most true n = le-refl n
-at-most false n = zero-le
 
 module _ (k : Kind) (t : Model) (u : Claim) (chosen : ℕ) where
   abbrev sizes : Verdict
@@ -71,8 +68,8 @@ module _ (k : Kind) (t : Model) (u : Claim) (chosen : ℕ) where
   pub short : T (accepts sizes) → (length (u .costs) < 2 ^ 32) × ((length (u .claims) < 2 ^ 32) × (length (u .ranks) < 2 ^ 32))
   short h =
       let s = sizes-right h in (
-        omega (arith, s .table6, at-most (k .costs) (states t), s .n-most),
-        (omega (arith, s .table7, s .n-most), omega (arith, s .table8, at-most (k .ranks) (states t), s .n-most)),
+        omega (arith, s .table6, entries-most (k .costs) (states t), s .n-most),
+        (omega (arith, s .table7, s .n-most), omega (arith, s .table8, entries-most (k .ranks) (states t), s .n-most)),
       )
 
   -- refusals 2 to 14, by which part stops
@@ -175,21 +172,6 @@ module _ (k : Kind) (t : Model) (u : Claim) (choices : List ℕ) where
           ∙ picks (sym (col .choices) ∙ q))
       by false q = empty choices _ (e ∙ ap (λ (b : Bool). entries b (states t)) q)
 
--- the kind that a number names, or none
-pub named : (k : Kind) (kind : ℕ) → As k ≡ knownAs kind → (isKind kind ≡ true) × (k ≡ kindOf kind)
-named k kind e = by (isKind kind) refl
-  where
-    by : (b : Bool) → isKind kind ≡ b → (isKind kind ≡ true) × (k ≡ kindOf kind)
-    by true q = let f : As k ≡ As (kindOf kind) = e ∙ rw q in (q, cc)
-    by false q = let f : As k ≡ Nothing = e ∙ rw q in let z : _≡_ {A = ℕ} 0 1 = cc in absurd (omega arith)
-
-pub unnamed : (kind : ℕ) → Nothing ≡ knownAs kind → isKind kind ≡ false
-unnamed kind e = by (isKind kind) refl
-  where
-    by : (b : Bool) → isKind kind ≡ b → isKind kind ≡ false
-    by false q = q
-    by true q = let f : Nothing ≡ As (kindOf kind) = e ∙ rw q in let z : _≡_ {A = ℕ} 0 1 = cc in absurd (omega arith)
-
 -- what is equal to the definition keeps the promise, demand 3 with it
 pub promise : (kind : ℕ) (t : Model) (u : Claim) (before : List ℕ) (r : Answer) (after : List ℕ)
     → r ≡ answerOf kind t u before → after ≡ choicesOf kind t u before → Checked kind t u before r after
@@ -220,21 +202,21 @@ module _ (kind : ℕ) (t : Model) (u : Claim) (before after : List ℕ) where
   pub known-kept : (v : Verdict) (k : Kind) → As k ≡ knownAs kind → v ≡ verdictOf k t u before → after ≡ chosenOf k t u before (verdictOf k t u before)
       → Checked kind t u before (record { kind = kind; verdict = v }) after
   known-kept v k e p q =
-      let n = named k kind e in
+      let n = named kind k (sym e) in
       let f = sym (verdict-is (n .0)) in
-      promise kind t u before _ after (answers v (p ∙ ap (λ (x : Kind). verdictOf x t u before) (n .1) ∙ f))
-      (q ∙ ap (λ (x : Kind). chosenOf x t u before (verdictOf x t u before)) (n .1) ∙ chooses (verdictOf (kindOf kind) t u before) f)
+      promise kind t u before _ after (answers v (p ∙ ap (λ (x : Kind). verdictOf x t u before) (sym (n .1)) ∙ f))
+      (q ∙ ap (λ (x : Kind). chosenOf x t u before (verdictOf x t u before)) (sym (n .1)) ∙ chooses (verdictOf (kindOf kind) t u before) f)
 
   pub unknown-kept : Nothing ≡ knownAs kind → after ≡ before → Checked kind t u before (record { kind = kind; verdict = Refused 1 0 }) after
   unknown-kept e q =
-      let f = sym (verdict-none (unnamed kind e)) in
+      let f = sym (verdict-none (unnamed kind (sym e))) in
       promise kind t u before _ after (answers (Refused 1 0) f) (q ∙ unchosen (kindOf kind) t u before (Refused 1 0) refl ∙ chooses (Refused 1 0) f)
 
 module _ (kind : ℕ) (t : Model) (u : Claim) (chosen : ℕ) where
   pub known-refused : (v : Verdict) (k : Kind) → As k ≡ knownAs kind → v ≡ tried (tests k t u chosen) pass → v ≡ refusalOf kind t u chosen
   unfolding refusalOf then kindTest require
-  known-refused v k e p = let n = named k kind e in p ∙ ap (λ (x : Kind). tried (tests x t u chosen) pass) (n .1) ∙ rw (n .0)
+  known-refused v k e p = let n = named kind k (sym e) in p ∙ ap (λ (x : Kind). tried (tests x t u chosen) pass) (sym (n .1)) ∙ rw (n .0)
 
   pub unknown-refused : Nothing ≡ knownAs kind → Refused 1 0 ≡ refusalOf kind t u chosen
   unfolding refusalOf then kindTest require
-  unknown-refused e = rw (unnamed kind e)
+  unknown-refused e = rw (unnamed kind (sym e))

@@ -4,7 +4,6 @@ use mathlib.Core.Bool.{Bool, true, false, cond, _&&_}
 use Prim.Native.Nat.{ℕ, _+_, _<_}
 use native.Mathlib.Omega.{arith}
 use lib.Dec.{T}
-use mathlib.Core.List.{List}
 use Rattle.walk.proofs.Bools.{holds, fails, is-true, is-false, both, and-left, and-right}
 use Rattle.walk.proofs.Fold.{lowest}
 use Rattle.walk.proofs.Quantified.{any-first, at-any}

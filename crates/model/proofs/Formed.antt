@@ -37,6 +37,11 @@ module _ (lo hi x : ℕ) where
   pub in-between : lo ≤ x → x ≤ hi → T (between lo hi x)
   in-between p q = both (leb lo x) (leb x hi) (le→leb lo x p) (le→leb x hi q)
 
+-- a table has no more entries than there are states
+pub entries-most : (has : Bool) (n : ℕ) → entries has n ≤ n
+entries-most true n = omega arith
+entries-most false n = omega arith
+
 -- the scale of claims, by the measure
 scale-of : (cost : Bool) (c : ℕ) → T (cond cost (eqb c 1) (between 1 mostClaimScale c)) → (1 ≤ c) × (c ≤ mostClaimScale) × (cost ≡ true → c ≡ 1)
 scale-of true c h = let e : c ≡ 1 = eqb→eq c 1 h in (omega arith, omega arith, λ q. e)

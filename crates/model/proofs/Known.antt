@@ -1,10 +1,10 @@
 -- What is known of a kind's number by the kind that it names, or names not. Assumes nothing.
 use mathlib.Core.Path.{_≡_, refl, sym, subst, _∙_}
 use mathlib.Core.Bool.{Bool, true, false, cond}
-use Prim.Native.Nat.{ℕ, _-_, _≤_}
+use Prim.Native.Nat.{ℕ, _-_}
 use native.Mathlib.Omega.{arith}
 use lib.Dec.{T, leb}
-use lib.ListN.{getD, List·getD-eq-default}
+use lib.ListN.{List·getD-eq-default}
 use borrow.Author.Tests.{leb-false}
 use Rattle.model.specs.declared.kinds.Kind.{Kind}
 use Rattle.model.specs.declared.kinds.Known.{Known}

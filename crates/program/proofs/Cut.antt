@@ -1,33 +1,27 @@
 -- The first entries of tables, as a header counts them, checked and printed. Assumes nothing.
-use mathlib.Core.Path.{_≡_, refl, sym, ap, _∙_}
-use mathlib.Core.Bool.{Bool, true, false, cond}
-use mathlib.Core.List.{List, [], _∷_, _++_}
-use Prim.Native.Nat.{ℕ, zero, suc, _+_, _-_, _*_, _≤_, _<_}
+use mathlib.Core.Path.{_≡_, sym, ap, _∙_}
+use mathlib.Core.List.{List, _++_}
+use Prim.Native.Nat.{ℕ, _+_, _-_, _≤_}
 use native.Mathlib.Omega.{arith}
-use lib.Dec.{ltb}
-use lib.ListN.{length, getD, take, drop, length-append, length-drop}
+use lib.ListN.{length, take, drop}
 use lib.Seq.{length-take-le, length-front, take-at}
-use borrow.Author.Tests.{lt-ltb, le-ltb}
 use Rattle.walk.proofs.Fold as Fold
 use Rattle.model.specs.Refusals.{entries, choiceCount}
 use Rattle.model.specs.Kinds.{kindOf}
+use Rattle.model.proofs.Formed.{entries-most}
 use Rattle.model.specs.Tables.{Model, Claim, modelOf, claimOf}
 use Rattle.model.specs.declared.answers.Answer.{Answer}
 use Rattle.model.specs.Checked.{choicesOf}
 use Rattle.checker.specs.Promise.{Checked}
 use Rattle.report.specs.Text.{textOf}
-use Rattle.wire.specs.Words.{word}
-use Rattle.wire.specs.Blocks.{Block, block, numbers, overwritten}
+use Rattle.wire.specs.Blocks.{block}
 use Rattle.certfile.specs.declared.Header.{Header}
 use Rattle.certfile.specs.declared.layout.Lengths.{Lengths}
-use Rattle.certfile.specs.declared.Outcome.{Outcome}
-use Rattle.certfile.specs.declared.Outcome.the-variants.{Read, Refused}
-use Rattle.certfile.specs.File.{announced, outcomeOf, tableOf}
-use Rattle.certfile.specs.Layout.{countsOf, tablePlace}
-use Rattle.certfile.specs.Tables.{Tables, lent, ReadInto}
+use Rattle.certfile.specs.File.{announced}
+use Rattle.certfile.specs.Layout.{countsOf}
+use Rattle.certfile.specs.Tables.{Tables, lent}
 use Rattle.certfile.specs.Contents.{cut, modelCut, claimCut}
-use Rattle.certfile.proofs.Passed.{ready}
-use Rattle.program.specs.Printed.{checkedText, readText, refusedText, printedOf, mostBytes, room, blank}
+use Rattle.program.specs.Printed.{checkedText}
 use Rattle.program.specs.Shows.{Shows, Enough}
 
 -- each part that is cut has the length that is asked
@@ -61,10 +55,6 @@ unfolding block announced
 states-counted h count q = rw q
 
 -- the choice list has no more entries than there are states
-entries-most : (has : Bool) (n : ℕ) → entries has n ≤ n
-entries-most true n = omega arith
-entries-most false n = omega arith
-
 pub choices-fit : (h : Header) (count : Lengths) (chosen : ℕ) (lent choices text : List ℕ) → count ≡ countsOf h → Enough h lent choices text → chosen ≡ choiceCount (h .kind) (count .marks) → chosen ≤ length choices
 choices-fit h count chosen lent choices text q e f =
     omega (arith, states-counted h count q, e .states, f, entries-most (kindOf (h .kind) .choices) (count .marks))

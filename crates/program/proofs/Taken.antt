@@ -1,21 +1,17 @@
 -- A file that was read, and what is printed for it. Assumes nothing.
 use mathlib.Core.Path.{_≡_, refl, sym, ap, subst, _∙_}
-use mathlib.Core.Bool.{true, false}
-use mathlib.Core.List.{List, [], _∷_, _++_}
+use mathlib.Core.List.{List}
 use Prim.Native.Nat.{ℕ, _+_, _-_, _*_, _≤_, _<_}
 use native.Mathlib.Omega.{arith}
-use lib.ListN.{length, getD, take, drop, length-append}
-use lib.Seq.{take-at}
+use lib.ListN.{length, getD, take, length-append}
 use borrow.Author.Tests.{lt-ltb, le-ltb}
 use Rattle.walk.proofs.Fold as Fold
-use Rattle.model.specs.Tables.{Model, Claim, modelOf, claimOf}
-use Rattle.wire.specs.Words.{word}
-use Rattle.wire.specs.Blocks.{Block, block, numbers, overwritten}
+use Rattle.model.specs.Tables.{Model, Claim}
+use Rattle.wire.specs.Blocks.{block}
 use Rattle.certfile.specs.declared.Header.{Header}
 use Rattle.certfile.specs.declared.Outcome.{Outcome}
 use Rattle.certfile.specs.declared.Outcome.the-variants.{Read, Refused}
-use Rattle.certfile.specs.File.{announced, outcomeOf, tableOf}
-use Rattle.certfile.specs.Layout.{tablePlace}
+use Rattle.certfile.specs.File.{announced, outcomeOf}
 use Rattle.certfile.specs.Tables.{Tables, lent, ReadInto}
 use Rattle.certfile.specs.Contents.{modelIn, claimIn, modelCut, claimCut}
 use Rattle.certfile.proofs.Passed.{ready}

@@ -8,7 +8,6 @@ use Rattle.model.specs.declared.answers.Verdict.the-variants.{Refused as Refuse
 use Rattle.model.specs.Refusals.{choiceCount}
 use Rattle.model.specs.Tables.{Model, Claim}
 use Rattle.model.specs.Checked.{answerOf, choicesOf}
-use Rattle.certfile.specs.declared.Header.{Header}
 use Rattle.certfile.specs.declared.Outcome.{Outcome}
 use Rattle.certfile.specs.declared.Outcome.the-variants.{Read, Refused}
 use Rattle.certfile.specs.File.{outcomeOf}

@@ -1,5 +1,4 @@
 // What the check program prints for a file.
-ghost use mathlib.Core.Path.{_≡_};
 ghost use Prim.Native.Nat.{_+_, _*_, _≤_};
 ghost use lib.ListN.{length, take};
 ghost use Rattle.certfile.specs.Contents.{modelCut, claimCut};

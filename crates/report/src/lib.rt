@@ -1,6 +1,6 @@
 // What the check program prints: the verdict's line and, after acceptance, a line for each entry of the choice list.
 ghost use mathlib.Core.Path.{_≡_};
-ghost use mathlib.Core.List.{[], _∷_, _++_};
+ghost use mathlib.Core.List.{_++_};
 ghost use Prim.Native.Nat.{_+_, _*_, _≤_, _<_};
 ghost use lib.ListN.{length, drop};
 ghost use Rattle.report.specs.Text.{decimal, dashed, field, headOf, lineOf, linesOf, textOf};

@@ -1,7 +1,5 @@
 // The library to link: document 01's check, reader and writer for C and whatever calls C, in numbers and lists of numbers.
 ghost use mathlib.Core.Path.{_≡_};
-ghost use mathlib.Core.List.{[], _∷_};
-ghost use Prim.Native.Nat.{_≤_};
 ghost use lib.ListN.{length};
 ghost use Rattle.model.specs.Answers.{number, value, action, then};
 ghost use Rattle.model.specs.Tables.{modelOf, claimOf};

@@ -4,7 +4,7 @@ use mathlib.Core.Bool.{Bool, true, false, cond}
 use mathlib.Core.List.{List, [], _∷_}
 use mathlib.Core.Logic.{⊎-elim}
 use Prim.Native.Nat.{ℕ, zero, suc, _-_, _^_, _≤_, _<_}
-use native.Mathlib.Nat.{zero-lt-suc, le-refl}
+use native.Mathlib.Nat.{zero-lt-suc}
 use native.Mathlib.Omega.{arith}
 use lib.Dec.{T, leb, leb→le}
 use lib.ListN.{length, getD, List·getD-eq-default}
@@ -13,8 +13,8 @@ use Rattle.walk.proofs.Fold.{at-end}
 use Rattle.model.specs.Limits.{mostClaimScale, mostCostClaim, none}
 use Rattle.model.specs.Kinds.{isCost, isKind, kindOf}
 use Rattle.model.specs.Tables.{Model, Claim, states, actions, branches, destination, weight, rank}
-use Rattle.model.specs.Refusals.{entries}
 use Rattle.model.specs.WellFormed.{Sized, WellFormed}
+use Rattle.model.proofs.Formed.{entries-most}
 use Rattle.model.proofs.Rising.{start-below, Owner, owner}
 use Rattle.wire.specs.Blocks.{size}
 use Rattle.wire.specs.Sections.{Section, sectionsOf, section}
@@ -58,10 +58,6 @@ table-fits width xs h j =
     (λ (q : j < length xs). h j q)
     (at-end j (length xs))
 
-entries-le : (has : Bool) (n : ℕ) → entries has n ≤ n
-entries-le true n = le-refl n
-entries-le false n = omega arith
-
 limit-le : (cost : Bool) (c : ℕ) → c ≤ mostClaimScale → cond cost mostCostClaim c < 256 ^ 8
 limit-le true c h = omega arith
 limit-le false c h = omega arith
@@ -77,7 +73,7 @@ module _ (kind : ℕ) (t : Model) (u : Claim) (chosen : ℕ) (w : WellFormed (ki
   unfolding size blocks announced
   size-fits =
       omega
-      (arith, s .n-most, s .table3-most, s .table4, entries-le (kindOf kind .costs) (states t), entries-le (kindOf kind .ranks) (states t))
+      (arith, s .n-most, s .table3-most, s .table4, entries-most (kindOf kind .costs) (states t), entries-most (kindOf kind .ranks) (states t))
 
   -- the action that owns a branch bounds what stands there
   at-branch : (j : ℕ) → j < branches t → (destination t j < states t) × (weight t j ≤ t .d)

@@ -1,7 +1,7 @@
 -- What is known where 1 to 14 do not refuse, and the promise kept by each answer. Assumes nothing.
 use mathlib.Core.Path.{_≡_, refl, sym, ap, subst, _∙_}
-use mathlib.Core.Bool.{Bool, true, false, _&&_}
-use mathlib.Core.List.{List, [], _∷_, _++_}
+use mathlib.Core.Bool.{Bool, true, false}
+use mathlib.Core.List.{List, [], _∷_}
 use Prim.Native.Nat.{ℕ, _≤_, _<_, _^_}
 use native.Mathlib.Omega.{arith}
 use lib.Dec.{T, leb}
@@ -16,7 +16,7 @@ use Rattle.model.specs.Answers.{pass, then, tried, require}
 use Rattle.model.specs.Refusals.{choiceCount, kindTest, tests}
 use Rattle.model.specs.Checked.{accepts, refusalOf, asideOf}
 use Rattle.model.specs.WellFormed.{WellFormed}
-use Rattle.model.proofs.Tried.{then-passed, then-stopped, then-first, then-second, tried-all, tried-go, tried-stop, require-right, right-require, wrong-require}
+use Rattle.model.proofs.Tried.{then-first, then-second, tried-all, tried-go, tried-stop, require-right}
 use Rattle.model.proofs.Formed.{formed}
 use Rattle.wire.specs.Blocks.{size}
 use Rattle.wire.specs.Sections.{written}

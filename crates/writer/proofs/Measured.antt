@@ -1,13 +1,13 @@
 -- The file that sized tables make has the blocks that its header announces, and so its length. Assumes nothing.
 use mathlib.Core.Path.{_≡_, ap, _∙_}
-use mathlib.Core.List.{List, [], _∷_}
+use mathlib.Core.List.{[], _∷_}
 use Prim.Native.Nat.{ℕ, _+_, _-_}
 use native.Mathlib.Omega.{arith}
 use lib.ListN.{length}
 use Rattle.model.specs.Kinds.{kindOf}
 use Rattle.model.specs.Tables.{Model, Claim, states, actions, branches}
 use Rattle.model.specs.WellFormed.{Sized}
-use Rattle.wire.specs.Blocks.{Block, blockOf, size}
+use Rattle.wire.specs.Blocks.{blockOf, size}
 use Rattle.wire.specs.Sections.{sectionsOf, blocksOf}
 use Rattle.wire.proofs.Spelled.{written-length}
 use Rattle.certfile.specs.File.{announced, blocks}

@@ -4,7 +4,8 @@ use borrow.Author.Needs.{needs}
 use Rattle.model.specs.Kinds.{Columns}
 use Rattle.model.specs.declared.kinds.Kind.{Kind}
 use Rattle.model.proofs.Columns.{columns}
-use Rattle.checker.proofs.Whole.{named, known-kept, unknown-kept}
+use Rattle.model.proofs.Known.{named}
+use Rattle.checker.proofs.Whole.{known-kept, unknown-kept}
 use Rattle.checker.proofs.check.Statement.{statement}
 use Rattle.checker.proofs.check.Tie as tie
 
@@ -12,7 +13,7 @@ check-kind-requires : tie.Need-check-kind-requires
 check-kind-requires c κs =
     let b = c .before .before .before .before .before .before .before .before .before .before .before .before .before .before in
     subst (λ (k : Kind). Columns k)
-    (sym (named _ (b .args .kind) (sym (c .before .before .k .given .1) ∙ c .before .before .before .before .kind-of .ensures) .1)) (columns (b .args .kind))
+    (named (b .args .kind) _ (sym (c .before .before .before .before .kind-of .ensures) ∙ c .before .before .k .given .1) .1) (columns (b .args .kind))
 
 returns : tie.Need-returns
 returns c =

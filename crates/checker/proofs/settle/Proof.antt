@@ -7,7 +7,8 @@ use lib.ListN.{length, take}
 use borrow.Author.Needs.{needs}
 use Rattle.walk.proofs.Bools.{holds}
 use Rattle.model.specs.Checked.{accepts}
-use Rattle.checker.proofs.Whole.{copied, unchosen, at-most}
+use Rattle.model.proofs.Formed.{entries-most}
+use Rattle.checker.proofs.Whole.{copied, unchosen}
 use Rattle.checker.proofs.settle.Statement.{statement}
 use Rattle.checker.proofs.settle.Tie as tie
 
@@ -17,7 +18,7 @@ copy-requires c κs =
     omega (
       arith,
       b .pre .1,
-      at-most (b .args .kind .choices) (length (b .args .marks .now)),
+      entries-most (b .args .kind .choices) (length (b .args .marks .now)),
       b .pre .0 .n-most,
       c .before .before .before .before .before .before .judge .kept,
     )

@@ -1,5 +1,5 @@
 -- `vartrymoy::unanswered` meets its contract. Assumes nothing.
-use mathlib.Core.Path.{_≡_, sym, ap, _∙_}
+use mathlib.Core.Path.{sym, ap, _∙_}
 use borrow.Author.Needs.{needs}
 use Rattle.walk.proofs.Bools.{holds}
 use Rattle.model.specs.Answers.{number}

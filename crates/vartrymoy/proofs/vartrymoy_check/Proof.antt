@@ -1,5 +1,5 @@
 -- `vartrymoy::vartrymoy_check` meets its contract, by the length of the answer list. Assumes nothing.
-use mathlib.Core.Path.{_≡_, refl, sym, ap, _∙_}
+use mathlib.Core.Path.{_≡_, ap, _∙_}
 use mathlib.Core.List.{List}
 use Prim.Native.Nat.{ℕ}
 use borrow.Author.Needs.{needs}
@@ -10,7 +10,7 @@ use Rattle.model.specs.declared.answers.Verdict.{Verdict}
 use Rattle.model.specs.declared.answers.Verdict.the-variants.{Refused}
 use Rattle.model.specs.Answers.{number, then}
 use Rattle.model.specs.Tables.{Model, Claim}
-use Rattle.model.specs.Checked.{refusalOf, answerOf, choicesOf}
+use Rattle.model.specs.Checked.{refusalOf}
 use Rattle.checker.specs.Promise.{Checked}
 use Rattle.vartrymoy.specs.Exported.{numbersOf, numberOf, CheckedInto}
 use Rattle.vartrymoy.proofs.vartrymoy_check.Statement.{statement}
