@@ -22,7 +22,7 @@ use Rattle.certfile.specs.Layout.{countsOf}
 use Rattle.certfile.specs.Tables.{Tables, lent}
 use Rattle.certfile.specs.Contents.{cut, modelCut, claimCut}
 use Rattle.program.specs.Printed.{checkedText}
-use Rattle.program.specs.Shows.{Shows, Enough}
+use Rattle.program.specs.Shows.{Shows, Roomy, Enough}
 
 -- each part that is cut has the length that is asked
 pub record Cuts (count : Lengths) (t : Tables) : Type 0 where
@@ -35,18 +35,18 @@ pub record Cuts (count : Lengths) (t : Tables) : Type 0 where
   pub claims : count .claims ≡ length (take (count .claims) (t .claims))
   pub ranks : count .ranks ≡ length (take (count .ranks) (t .ranks))
 
-pub cuts : (h : Header) (count : Lengths) (t : Tables) (choices text : List ℕ) → count ≡ countsOf h → Enough h (lent t) choices text → Cuts count t
-cuts h count t choices text q e =
+pub cuts : (h : Header) (count : Lengths) (t : Tables) → count ≡ countsOf h → Roomy h (lent t) → Cuts count t
+cuts h count t q e =
     rw q
     (record {
-      marks = sym (length-take-le _ (t .marks) (e .tables 0));
-      actionStarts = sym (length-take-le _ (t .actionStarts) (e .tables 1));
-      branchStarts = sym (length-take-le _ (t .branchStarts) (e .tables 2));
-      destinations = sym (length-take-le _ (t .destinations) (e .tables 3));
-      weights = sym (length-take-le _ (t .weights) (e .tables 4));
-      costs = sym (length-take-le _ (t .costs) (e .tables 5));
-      claims = sym (length-take-le _ (t .claims) (e .tables 6));
-      ranks = sym (length-take-le _ (t .ranks) (e .tables 7));
+      marks = sym (length-take-le _ (t .marks) (e 0));
+      actionStarts = sym (length-take-le _ (t .actionStarts) (e 1));
+      branchStarts = sym (length-take-le _ (t .branchStarts) (e 2));
+      destinations = sym (length-take-le _ (t .destinations) (e 3));
+      weights = sym (length-take-le _ (t .weights) (e 4));
+      costs = sym (length-take-le _ (t .costs) (e 5));
+      claims = sym (length-take-le _ (t .claims) (e 6));
+      ranks = sym (length-take-le _ (t .ranks) (e 7));
     })
 
 -- the states are those that the header counts

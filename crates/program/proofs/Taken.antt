@@ -18,7 +18,7 @@ use Rattle.certfile.proofs.Passed.{ready}
 use Rattle.certfile.proofs.Contents.{model-read, claim-read}
 use Rattle.model.specs.Refusals.{choiceCount}
 use Rattle.program.specs.Printed.{checkedText, readText, refusedText, printedOf, mostBytes, room, blank}
-use Rattle.program.specs.Shows.{Shows, Enough}
+use Rattle.program.specs.Shows.{Shows, Roomy, Enough}
 
 pub lengths-kept : (t u : Tables)
     → length (u .marks) ≡ length (t .marks)
@@ -43,16 +43,21 @@ refused-is : (number place : ℕ) (file choices : List ℕ) → refusedText numb
 unfolding readText
 refused-is number place file choices = refl
 
+-- tables that a file was read into have room for its blocks
+pub roomy : (o : Outcome) (file : List ℕ) (t u : Tables) → ReadInto o file t u → (h : Header) → o ≡ Read h → lent u ≡ lent t → Roomy h (lent u)
+roomy o file t u w h e kept =
+    λ i. subst (λ (l : List ℕ). block (announced h) i .count ≤ getD l i 0) (sym kept) (ready (lent t) file h (sym (w .answer) ∙ e) i .1)
+
 module _ (o : Outcome) (file : List ℕ) (t u : Tables) (choices text : List ℕ) (w : ReadInto o file t u) where
   module _ (h : Header) (e : o ≡ Read h) where
     -- what checking asks of the tables, the choice list and the text
     pub enough : lent u ≡ lent t → length (t .marks) ≤ length choices → 64 + 32 * length choices ≤ length text → Enough h (lent u) choices text
     unfolding block announced
     enough kept few long =
-        let at = ready (lent t) file h (sym (w .answer) ∙ e) in
+        let at = roomy o file t u w h e kept in
         record {
-          tables = λ i. subst (λ (l : List ℕ). block (announced h) i .count ≤ getD l i 0) (sym kept) (at i .1);
-          states = omega (arith, at 0 .1);
+          tables = at;
+          states = omega (arith, at 0, ap (λ (l : List ℕ). getD l 0 0) kept);
           bytes = long;
         }
 

@@ -11,8 +11,12 @@ pub record Shows (bytes : List ℕ) (r : ℕ) (before after : List ℕ) : Type 0
   pub length : r ≡ length bytes
   pub text : after ≡ bytes ++ drop r before
 
--- each lent table has room for its block, the choice list for a choice of each state, and the text for what is printed
+-- each lent table has room for its block
+abbrev pub Roomy : Header → List ℕ → Type 0
+Roomy h lent = (i : ℕ) → block (announced h) i .count ≤ getD lent i 0
+
+-- and the choice list for a choice of each state, and the text for what is printed
 pub record Enough (h : Header) (lent choices text : List ℕ) : Type 0 where
-  pub tables : (i : ℕ) → block (announced h) i .count ≤ getD lent i 0
+  pub tables : Roomy h lent
   pub states : h .n ≤ length choices
   pub bytes : 64 + 32 * length choices ≤ length text

@@ -41,7 +41,7 @@ impl Room {
 }
 
 // Prints a refusal.
-fn refused(number: u32, place: u32, text: &mut [u8]) -> usize
+pub fn refused(number: u32, place: u32, text: &mut [u8]) -> usize
     requires { ⌜ 64 ≤ length (now text) ⌝ }
     ensures { λ r. ⌜ Shows (refusedText number place) r (now (text .entry)) (now (text .exit)) ⌝ }
 {

@@ -42,7 +42,7 @@ fn number(text: &mut [u8], at: usize, n: u64) -> usize
 }
 
 // A blank, and then a number.
-fn spaced(text: &mut [u8], at: usize, n: u32) -> usize
+pub fn spaced(text: &mut [u8], at: usize, n: u32) -> usize
     requires { ⌜ at + 11 ≤ length (now text) ⌝ }
     ensures put { λ r. ⌜ Put (now (text .entry)) (now (text .exit)) at r (field (decimal n)) ⌝ }
     ensures short { λ r. ⌜ r ≤ at + 11 ⌝ }

@@ -17,7 +17,7 @@ lists c =
     tables (a .marks .now) (a .action-starts .now) (a .branch-starts .now) (a .destinations .now) (a .weights .now) (a .costs .now) (a .claims .now) (a .ranks .now)
 
 all : (c : tie.After-choice-count) → Cuts (c .before .counts-of .result) (lists (c .before .before .before .before .before .before .before .before .before .before .before .before))
-all c = cuts _ _ _ _ _ (c .before .counts-of .ensures .0) (c .before .before .before .before .before .before .before .before .before .before .before .before .pre)
+all c = cuts _ _ _ (c .before .counts-of .ensures .0) (c .before .before .before .before .before .before .before .before .before .before .before .before .pre .tables)
 
 few : (c : tie.After-choice-count) → c .choice-count .result ≤ length (c .before .before .before .before .before .before .before .before .before .before .before .before .args .choices .now)
 few c = choices-fit _ _ _ _ _ _ (c .before .counts-of .ensures .0) (c .before .before .before .before .before .before .before .before .before .before .before .before .pre) (c .choice-count .ensures)

@@ -1,10 +1,10 @@
--- `vectors::dropped` meets its contract: no more is read than is lent. Assumes nothing.
+-- `stream::dropped` meets its contract: no more is read than is lent. Assumes nothing.
 use mathlib.Core.Path.{sym}
 use lib.Seq.{length-take-le}
 use native.Mathlib.Omega.{arith}
 use borrow.Author.Needs.{needs}
-use Rattle.vectors.proofs.dropped.Statement.{statement}
-use Rattle.vectors.proofs.dropped.Tie as tie
+use Rattle.stream.proofs.dropped.Statement.{statement}
+use Rattle.stream.proofs.dropped.Tie as tie
 
 slice-aggregate-read-full : tie.Need-slice-aggregate-read-full
 slice-aggregate-read-full c = sym (length-take-le _ _ (search needs))

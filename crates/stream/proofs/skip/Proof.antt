@@ -1,7 +1,7 @@
--- `vectors::skip` meets its contract: each turn leaves fewer bytes. Assumes nothing.
+-- `stream::skip` meets its contract: each turn leaves fewer bytes. Assumes nothing.
 use native.Mathlib.Omega.{arith}
-use Rattle.vectors.proofs.skip.Statement.{statement}
-use Rattle.vectors.proofs.skip.Tie as tie
+use Rattle.stream.proofs.skip.Statement.{statement}
+use Rattle.stream.proofs.skip.Tie as tie
 
 abbrev Inv-loop : tie.InvT-loop
 Inv-loop count left₀ left = Unit
