@@ -1,3 +1,4 @@
 pub mod Right
 pub mod Stepped
 pub mod Attained
+pub mod Filed

@@ -1,0 +1,29 @@
+-- Model A as a kind 1 file takes 137 bytes, and its length field is 133; a buffer one byte shorter is refused. Assumes nothing.
+use mathlib.Core.Path.{_≡_, refl}
+use mathlib.Core.List.{List, [], _∷_}
+use lib.ListN.{length, take}
+use Rattle.walk.specs.Fold.{any}
+use Rattle.model.specs.Tables.{Claim}
+use Rattle.model.specs.Refusals.{sizeTests, weightScaleTest, claimScaleTest, statesTest, modelLengths, claimLengths, lengthTest}
+use Rattle.model.specs.Refusals.{rowTests, startsTest, startRight, marksTest, walkTest, actionTest, rangeTests, costsTest, claimsTest, ranksTest}
+use Rattle.writer.specs.declared.Written.the-variants.{Length, Refused}
+use Rattle.writer.specs.File.{fileOf, writtenOf}
+use Rattle.cases.specs.Worked.{modelA, arrival}
+
+-- the case that document 01 accepts first
+abbrev claims : Claim
+claims = arrival 8 (4 ∷ 0 ∷ 8 ∷ []) []
+
+pub bytes-of-A : length (fileOf 1 modelA claims) ≡ 137
+unfolding fileOf
+bytes-of-A = refl
+
+-- the length field, the version and the kind
+pub front-of-A : take 6 (fileOf 1 modelA claims) ≡ 0 ∷ 0 ∷ 0 ∷ 133 ∷ 1 ∷ 1 ∷ []
+unfolding fileOf
+front-of-A = refl
+
+pub room-for-A : (writtenOf 1 modelA claims 137 ≡ Length 137) × (writtenOf 1 modelA claims 136 ≡ Refused 35 0)
+unfolding any writtenOf sizeTests weightScaleTest claimScaleTest statesTest modelLengths claimLengths lengthTest
+    rowTests startsTest startRight marksTest walkTest actionTest rangeTests costsTest claimsTest ranksTest
+room-for-A = (refl, refl)
