@@ -95,7 +95,8 @@ module _ (kind : ℕ) (t : Model) (u : Claim) where
 
   -- the answer: the first test that does not pass, or the length
   written-is : (buffer : ℕ)
-      → writtenOf kind t u buffer ≡ answered (length (fileOf kind t u)) (tried (asideOf kind t u ∷ require (leb (length (fileOf kind t u)) buffer) 35 0 ∷ []) pass)
+      → writtenOf kind t u buffer
+      ≡ answered (length (fileOf kind t u)) (tried (asideOf kind t u ∷ require (leb (length (fileOf kind t u)) buffer) 35 0 ∷ []) pass)
   unfolding writtenOf writeTests bufferTest
   written-is buffer = refl
 
@@ -124,7 +125,8 @@ module _ (kind : ℕ) (t : Model) (u : Claim) where
 
   module _ (p : T (accepts (asideOf kind t u))) (buffer : ℕ) where
     judged : (right : Bool) → leb (length (fileOf kind t u)) buffer ≡ right
-        → writtenOf kind t u buffer ≡ answered (length (fileOf kind t u)) (tried (require right 35 0 ∷ []) pass)
+        → writtenOf kind t u buffer
+        ≡ answered (length (fileOf kind t u)) (tried (require right 35 0 ∷ []) pass)
     judged right e =
         written-is buffer
         ∙ ap (answered (length (fileOf kind t u)))
@@ -154,12 +156,14 @@ module _ (kind : ℕ) (t : Model) (u : Claim) where
       (w .0, leb-true n buffer (w .1), w .2)
 
   -- the promise, by what is answered
-  pub left : (before : List ℕ) (r : Written) → r ≡ writtenOf kind t u (length before) → (number place : ℕ) → r ≡ Refused number place → WrittenInto r kind t u before before
+  pub left : (before : List ℕ) (r : Written) → r ≡ writtenOf kind t u (length before)
+      → (number place : ℕ) → r ≡ Refused number place → WrittenInto r kind t u before before
   unfolding bufferOf
   left before r e number place q = record { answer = e; buffer = sym (ap (λ (x : Written). bufferOf x (fileOf kind t u) before) q) }
 
   pub put-in : (before : List ℕ) (bytes : ℕ) → Length bytes ≡ writtenOf kind t u (length before) → (after : List ℕ)
-      → (h : Header) → h ≡ headerFor kind t u → after ≡ overlaid (written (sections h (modelled h) (claimed h))) before → WrittenInto (Length bytes) kind t u before after
+      → (h : Header) → h ≡ headerFor kind t u → after ≡ overlaid (written (sections h (modelled h) (claimed h))) before
+      → WrittenInto (Length bytes) kind t u before after
   unfolding bufferOf
   put-in before bytes e after h p q =
       record {

@@ -37,7 +37,8 @@ spelled-one width x = append-nil (bytes width x)
 abbrev pub headBytes : Header → List ℕ
 headBytes h = written (sectionsOf headerBlocks (heads h))
 
-head-is : (h : Header) → headBytes h ≡ spelled 4 ((size (blocks h) - 4) ∷ []) ++ (spelled 1 (1 ∷ []) ++ (spelled 1 (h .kind ∷ []) ++ (spelled 4 (numbers h) ++ [])))
+head-is : (h : Header) → headBytes h
+    ≡ spelled 4 ((size (blocks h) - 4) ∷ []) ++ (spelled 1 (1 ∷ []) ++ (spelled 1 (h .kind ∷ []) ++ (spelled 4 (numbers h) ++ [])))
 unfolding written sectionsOf
 head-is h = refl
 
