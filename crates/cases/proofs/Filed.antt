@@ -1,8 +1,10 @@
--- Model A as a kind 1 file takes 137 bytes, and its length field is 133; a buffer one byte shorter is refused. Assumes nothing.
+-- Model A as a kind 1 file takes 137 bytes, and its length field is 133; a buffer one byte shorter is refused, but only where 1 to 14
+-- do not refuse. Assumes nothing.
 use mathlib.Core.Path.{_≡_, refl}
 use mathlib.Core.List.{List, [], _∷_}
 use lib.ListN.{length, take}
 use Rattle.walk.specs.Fold.{any}
+use Rattle.model.specs.Limits.{none}
 use Rattle.model.specs.Tables.{Claim}
 use Rattle.model.specs.Refusals.{sizeTests, weightScaleTest, claimScaleTest, statesTest, modelLengths, claimLengths, lengthTest}
 use Rattle.model.specs.Refusals.{rowTests, startsTest, startRight, marksTest, walkTest, actionTest, rangeTests, costsTest, claimsTest, ranksTest}
@@ -27,3 +29,9 @@ pub room-for-A : (writtenOf 1 modelA claims 137 ≡ Length 137) × (writtenOf 1 
 unfolding any writtenOf sizeTests weightScaleTest claimScaleTest statesTest modelLengths claimLengths lengthTest
     rowTests startsTest startRight marksTest walkTest actionTest rangeTests costsTest claimsTest ranksTest
 room-for-A = (refl, refl)
+
+-- a rank that is out of range is refused before a buffer that is too short
+pub fourteen-first : writtenOf 4 modelA (arrival 8 (4 ∷ 0 ∷ 8 ∷ []) (1 ∷ none ∷ 3 ∷ [])) 0 ≡ Refused 14 2
+unfolding any writtenOf sizeTests weightScaleTest claimScaleTest statesTest modelLengths claimLengths lengthTest
+    rowTests startsTest startRight marksTest walkTest actionTest rangeTests costsTest claimsTest ranksTest
+fourteen-first = refl
