@@ -1,7 +1,7 @@
 // What the check program prints: the verdict's line and, after acceptance, a line for each entry of the choice list.
 ghost use mathlib.Core.Path.{_≡_};
 ghost use mathlib.Core.List.{_++_};
-ghost use Prim.Native.Nat.{_+_, _*_, _≤_, _<_};
+ghost use Prim.Native.Nat.{_+_, _*_, _≤_};
 ghost use lib.ListN.{length, drop};
 ghost use Rattle.report.specs.Text.{decimal, dashed, field, headOf, lineOf, linesOf, textOf};
 ghost use Rattle.walk.specs.Put.{Put};
@@ -27,8 +27,7 @@ const ZERO: u8 = b'0';
 
 const BASE: u64 = 10;
 
-// Each of these puts bytes into the text from a place on, and answers the next place.
-// The digits of a number, with no zero in front.
+// Each of these puts bytes into the text from a place on, and answers the next place: the digits of a number, with no zero in front.
 fn number(text: &mut [u8], at: usize, n: u64) -> usize
     requires { ⌜ at + length (decimal n) ≤ length (now text) ⌝ }
     ensures { λ r. ⌜ Put (now (text .entry)) (now (text .exit)) at r (decimal n) ⌝ }

@@ -29,28 +29,31 @@ returns c =
     refused _ (t s) (u s) _ e (stops (c .before .before .accepts .ensures) (c .before .if1 .taken) e) _ (c .answered .ensures) _
 
 -- 1 to 14 do not refuse
-passed : (c : tie.Else1) → let s = c .before .before .before .before .before .before .before .before .before .before .before .before in T (accepts (asideOf (s .args .kind) (t s) (u s)))
+abbrev begun : tie.Else1 → tie.Start
+begun c = c .before .before .before .before .before .before .before .before .before .before .before .before
+
+passed : (c : tie.Else1) → let s = begun c in T (accepts (asideOf (s .args .kind) (t s) (u s)))
 passed c =
-    let s = c .before .before .before .before .before .before .before .before .before .before .before .before in
+    let s = begun c in
     goes (c .before .accepts .ensures) (c .if1 .left) (c .before .before .refuse .ensures ∙ aside-is _ (t s) (u s) _ (c .before .before .before .choice-count .ensures))
 
 header-requires : tie.Need-header-requires
-header-requires c κs = let s = c .before .before .before .before .before .before .before .before .before .before .before .before in countable _ (t s) (u s) (passed c)
+header-requires c κs = countable _ (t (begun c)) (u (begun c)) (passed c)
 
-counted : (c : tie.After-length-of) → let s = c .before .before .before .before .before .before .before .before .before .before .before .before .before .before in c .length-of .result ≡ length (fileOf (s .args .kind) (t s) (u s))
+counted : (c : tie.After-length-of) → let s = begun (c .before .before) in c .length-of .result ≡ length (fileOf (s .args .kind) (t s) (u s))
 counted c =
-    let s = c .before .before .before .before .before .before .before .before .before .before .before .before .before .before in
+    let s = begun (c .before .before) in
     c .length-of .ensures ∙ ap (λ (h : Header). size (blocks h)) (c .before .header .ensures) ∙ sym (file-size _ (t s) (u s) (passed (c .before .before)))
 
 returns-2 : tie.Need-returns-2
 returns-2 c =
-    let s = c .before .before .before .before .before .before .before .before .before .before .before .before .before .before .before in
+    let s = begun (c .before .before .before) in
     let e = counted (c .before) in
     too-short _ (t s) (u s) (passed (c .before .before .before)) _ (omega (arith, c .if2 .taken, e))
 
 returns-3 : tie.Need-returns-3
 returns-3 c =
-    let s = c .before .before .before .before .before .before .before .before .before .before .before .before .before .before .before in
+    let s = begun (c .before .before .before) in
     let e = counted (c .before) in
     long-enough _ (t s) (u s) (passed (c .before .before .before)) _ (omega (arith, c .if2 .left, e)) _ e
 

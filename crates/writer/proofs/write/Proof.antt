@@ -21,15 +21,18 @@ returns : tie.Need-returns
 returns c = left _ _ _ _ _ (c .before .before .preview .ensures) _ _ (c .enum-told .given .1)
 
 -- a length was answered
-told : (c : tie.After-known-told) → let s = c .before .before .before .before .before .before .before .before .before .before .before .before .before in writtenOf (s .args .kind) (t s) (u s) (length (s .args .buffer .now)) ≡ Length (c .before .written .given .0 .0)
+abbrev begun : tie.After-known-told → tie.Start
+begun c = c .before .before .before .before .before .before .before .before .before .before .before .before .before
+
+told : (c : tie.After-known-told) → let s = begun c in writtenOf (s .args .kind) (t s) (u s) (length (s .args .buffer .now)) ≡ Length (c .before .written .given .0 .0)
 told c = sym (c .before .before .before .preview .ensures) ∙ c .before .written .given .1
 
 header-requires : tie.Need-header-requires
-header-requires c κs = let s = c .before .before .before .before .before .before .before .before .before .before .before .before .before in countable _ (t s) (u s) (length-told _ (t s) (u s) _ _ (told c) .0)
+header-requires c κs = let s = begun c in countable _ (t s) (u s) (length-told _ (t s) (u s) _ _ (told c) .0)
 
 put-requires : tie.Need-put-requires
 put-requires c κs =
-    let s = c .before .before .before .before .before .before .before .before .before .before .before .before .before .before .before in
+    let s = begun (c .before .before) in
     let w = length-told _ (t s) (u s) _ _ (told (c .before .before)) in
     room _ (t s) (u s) (w .0) _ (c .before .header .ensures) _ _ (w .2) (omega (arith, w .1, w .2))
 
