@@ -1,7 +1,8 @@
-//! Measures the proved library against the independent program; see `run`.
+//! Measures the proved library against the independent program, see `run`, and compares the two writers.
 
 mod ours;
 mod tables;
+mod writers;
 
 use std::collections::BTreeMap;
 use std::hint::black_box;
@@ -23,10 +24,16 @@ const RUNS: usize = 40;
 fn main() {
     // The call keeps the padding before the code.
     unsafe { padding() };
-    match std::env::args().nth(1).as_deref() {
-        Some("measure") => measure(),
-        Some("table") => table(),
-        _ => eprintln!("usage: bench measure | bench table < MEASURED"),
+    let arguments: Vec<String> = std::env::args().skip(1).collect();
+    let words: Vec<&str> = arguments.iter().map(String::as_str).collect();
+    match words[..] {
+        ["measure"] => measure(),
+        ["table"] => table(),
+        ["writers", seed, count] => {
+            let [seed, count] = [seed, count].map(|n| n.parse().expect("a number"));
+            writers::compare(seed, count);
+        }
+        _ => eprintln!("usage: bench measure | bench table < MEASURED | bench writers SEED COUNT"),
     }
 }
 

@@ -76,7 +76,7 @@ fn starts(rows: usize, per_row: usize) -> Vec<u32> {
 }
 
 /// Numbers below a bound, the same on each run.
-fn random() -> impl FnMut(usize) -> usize {
+pub fn random() -> impl FnMut(usize) -> usize {
     let mut x = 88_172_645_463_325_252u64;
     move |end| {
         x ^= x << 13;

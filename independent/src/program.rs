@@ -35,7 +35,7 @@ pub fn answer(input: &[u8]) -> Answer {
 }
 
 /// Reads the input as a file for which there is room.
-pub(crate) fn read(input: &[u8]) -> Result<Certificate, Refusal> {
+pub fn read(input: &[u8]) -> Result<Certificate, Refusal> {
     let refused = |number| Refusal { number, place: 0 };
     if input.len() > MAX_INPUT {
         return Err(refused(33));
