@@ -1,6 +1,6 @@
 // What comes back: one verdict, with the kind of claim beside it.
 ghost use mathlib.Core.Path.{_≡_};
-ghost use Rattle.model.specs.Answers.{then, require};
+ghost use Rattle.model.specs.Answers.{number, then, require};
 ghost use Rattle.model.specs.Checked.{accepts};
 
 pub enum Verdict {
@@ -34,6 +34,21 @@ impl Verdict {
                 state: _,
                 action: _,
             } => false,
+        }
+    }
+
+    // Document 01's number.
+    pub fn number(self) -> u32
+        ensures { λ r. ⌜ r ≡ number self ⌝ }
+    {
+        match self {
+            Verdict::Accepted { rank: _ } => 0,
+            Verdict::Refused { number, place: _ } => number,
+            Verdict::Violated {
+                number,
+                state: _,
+                action: _,
+            } => number,
         }
     }
 

@@ -1,5 +1,5 @@
 -- The first entries of tables, as a header counts them, checked and printed. Assumes nothing.
-use mathlib.Core.Path.{_≡_, sym, ap, _∙_}
+use mathlib.Core.Path.{_≡_, sym, ap, subst, _∙_}
 use mathlib.Core.List.{List, _++_}
 use Prim.Native.Nat.{ℕ, _+_, _-_, _≤_}
 use native.Mathlib.Omega.{arith}
@@ -11,7 +11,9 @@ use Rattle.model.specs.Kinds.{kindOf}
 use Rattle.model.proofs.Formed.{entries-most}
 use Rattle.model.specs.Tables.{Model, Claim, modelOf, claimOf}
 use Rattle.model.specs.declared.answers.Answer.{Answer}
-use Rattle.model.specs.Checked.{choicesOf}
+use Rattle.model.specs.Checked.{refusalOf, choicesOf}
+use Rattle.model.specs.Answers.{number}
+use Rattle.model.specs.declared.answers.Verdict.{Verdict}
 use Rattle.checker.specs.Promise.{Checked}
 use Rattle.report.specs.Text.{textOf}
 use Rattle.wire.specs.Blocks.{block}
@@ -21,8 +23,9 @@ use Rattle.certfile.specs.File.{announced}
 use Rattle.certfile.specs.Layout.{countsOf}
 use Rattle.certfile.specs.Tables.{Tables, lent}
 use Rattle.certfile.specs.Contents.{cut, modelCut, claimCut}
-use Rattle.program.specs.Printed.{checkedText}
-use Rattle.program.specs.Shows.{Shows, Roomy, Enough}
+use Rattle.program.specs.declared.Told.{Told}
+use Rattle.program.specs.Printed.{checkedText, chosenIn}
+use Rattle.program.specs.Shows.{Roomy, Enough, Judged}
 
 -- each part that is cut has the length that is asked
 pub record Cuts (count : Lengths) (t : Tables) : Type 0 where
@@ -55,9 +58,33 @@ unfolding block announced
 states-counted h count q = rw q
 
 -- the choice list has no more entries than there are states
-pub choices-fit : (h : Header) (count : Lengths) (chosen : ℕ) (lent choices text : List ℕ) → count ≡ countsOf h → Enough h lent choices text → chosen ≡ choiceCount (h .kind) (count .marks) → chosen ≤ length choices
-choices-fit h count chosen lent choices text q e f =
-    omega (arith, states-counted h count q, e .states, f, entries-most (kindOf (h .kind) .choices) (count .marks))
+pub chosen-few : (h : Header) (count : Lengths) (chosen : ℕ) → count ≡ countsOf h → chosen ≡ choiceCount (h .kind) (count .marks) → chosen ≤ h .n
+chosen-few h count chosen q f = omega (arith, states-counted h count q, f, entries-most (kindOf (h .kind) .choices) (count .marks))
+
+-- the model and the claim that the cut tables are
+module _ (h : Header) (count : Lengths) (t : Tables) where
+  abbrev modelTaken : Model
+  modelTaken =
+      modelOf (h .d)
+      (take (count .marks) (t .marks))
+      (take (count .«action_starts») (t .actionStarts))
+      (take (count .«branch_starts») (t .branchStarts))
+      (take (count .destinations) (t .destinations))
+      (take (count .weights) (t .weights))
+
+  abbrev claimTaken : Claim
+  claimTaken = claimOf (h .c) (take (count .costs) (t .costs)) (take (count .claims) (t .claims)) (take (count .ranks) (t .ranks))
+
+  model-cut : count ≡ countsOf h → modelTaken ≡ modelCut h t
+  unfolding cut
+  model-cut q = rw q
+
+  claim-cut : count ≡ countsOf h → claimTaken ≡ claimCut h t
+  unfolding cut
+  claim-cut q = rw q
+
+chosen-counted : (h : Header) (count : Lengths) (chosen : ℕ) → count ≡ countsOf h → chosen ≡ choiceCount (h .kind) (count .marks) → chosen ≡ chosenIn h
+chosen-counted h count chosen q f = f ∙ ap (choiceCount (h .kind)) (states-counted h count q)
 
 -- the lent list after the check, whose first entries it overwrote
 module _ (chosen : ℕ) (choices after : List ℕ) (few : chosen ≤ length choices) (kept : length after ≡ length (take chosen choices)) where
@@ -72,39 +99,42 @@ module _ (chosen : ℕ) (choices after : List ℕ) (few : chosen ≤ length choi
 
   -- what is printed is what the definition says
   module _ (h : Header) (count : Lengths) (t : Tables) (q : count ≡ countsOf h) (f : chosen ≡ choiceCount (h .kind) (count .marks)) where
-    abbrev modelTaken : Model
-    modelTaken =
-        modelOf (h .d)
-        (take (count .marks) (t .marks))
-        (take (count .«action_starts») (t .actionStarts))
-        (take (count .«branch_starts») (t .branchStarts))
-        (take (count .destinations) (t .destinations))
-        (take (count .weights) (t .weights))
+    module _ (answer : Answer) (w : Checked (h .kind) (modelTaken h count t) (claimTaken h count t) (take chosen choices) answer after) (r : Told) (text text′ : List ℕ) where
+      abbrev list′ : List ℕ
+      list′ = after ++ drop chosen choices
 
-    abbrev claimTaken : Claim
-    claimTaken = claimOf (h .c) (take (count .costs) (t .costs)) (take (count .claims) (t .claims)) (take (count .ranks) (t .ranks))
+      text-is : textOf (answer .verdict) (take chosen list′) ≡ checkedText (h .kind) (modelTaken h count t) (claimTaken h count t) (take chosen choices)
+      unfolding checkedText
+      text-is =
+          ap (textOf (answer .verdict)) (first-entries ∙ w .choices)
+          ∙ ap (λ (a : Answer). textOf (a .verdict) (choicesOf (h .kind) (modelTaken h count t) (claimTaken h count t) (take chosen choices))) (w .answer)
 
-    model-cut : modelTaken ≡ modelCut h t
-    unfolding cut
-    model-cut = rw q
+      taken : r .number ≡ number (answer .verdict)
+          → r .bytes ≡ length (textOf (answer .verdict) (take chosen list′))
+          → text′ ≡ textOf (answer .verdict) (take chosen list′) ++ drop (r .bytes) text
+          → Judged (h .kind) (modelTaken h count t) (claimTaken h count t) chosen choices text r list′ text′
+      taken told long shown =
+          record {
+            number = told ∙ ap (λ (a : Answer). number (a .verdict)) (w .answer);
+            shows = record { length = long ∙ ap length text-is; text = shown ∙ ap (λ (l : List ℕ). l ++ drop (r .bytes) text) text-is };
+            choices = ap (λ (l : List ℕ). l ++ drop chosen choices) (w .choices);
+            sound = λ R e. rw first-entries (w .sound R (ap (λ (a : Answer). a .verdict) (w .answer) ∙ e));
+          }
 
-    claim-cut : claimTaken ≡ claimCut h t
-    unfolding cut
-    claim-cut = rw q
+      pub printed : r .number ≡ number (answer .verdict)
+          → r .bytes ≡ length (textOf (answer .verdict) (take chosen list′))
+          → text′ ≡ textOf (answer .verdict) (take chosen list′) ++ drop (r .bytes) text
+          → Judged (h .kind) (modelCut h t) (claimCut h t) (chosenIn h) choices text r list′ text′
+      printed told long shown =
+          subst (λ (x : Model). Judged (h .kind) x (claimCut h t) (chosenIn h) choices text r list′ text′) (model-cut h count t q)
+          (subst (λ (x : Claim). Judged (h .kind) (modelTaken h count t) x (chosenIn h) choices text r list′ text′) (claim-cut h count t q)
+          (subst (λ (k : ℕ). Judged (h .kind) (modelTaken h count t) (claimTaken h count t) k choices text r list′ text′) (chosen-counted h count chosen q f) (taken told long shown)))
 
-    pub printed : (answer : Answer) (r : ℕ) (text text′ : List ℕ)
-        → Checked (h .kind) modelTaken claimTaken (take chosen choices) answer after
-        → r ≡ length (textOf (answer .verdict) (take chosen (after ++ drop chosen choices)))
-        → text′ ≡ textOf (answer .verdict) (take chosen (after ++ drop chosen choices)) ++ drop r text
-        → Shows (checkedText (h .kind) (modelCut h t) (claimCut h t) (take (choiceCount (h .kind) (h .n)) choices)) r text text′
-    unfolding checkedText
-    printed answer r text text′ w long shown =
-        let n : chosen ≡ choiceCount (h .kind) (h .n) = f ∙ ap (choiceCount (h .kind)) (states-counted h count q) in
-        let e : textOf (answer .verdict) (take chosen (after ++ drop chosen choices)) ≡ checkedText (h .kind) (modelCut h t) (claimCut h t) (take (choiceCount (h .kind) (h .n)) choices) =
-        ap (textOf (answer .verdict)) (first-entries ∙ w .choices)
-        ∙ ap (λ (a : Answer). textOf (a .verdict) (choicesOf (h .kind) modelTaken claimTaken (take chosen choices))) (w .answer)
-        ∙ ap (λ (x : Model). checkedText (h .kind) x claimTaken (take chosen choices)) model-cut
-        ∙ ap (λ (x : Claim). checkedText (h .kind) (modelCut h t) x (take chosen choices)) claim-cut
-        ∙ ap (λ (k : ℕ). checkedText (h .kind) (modelCut h t) (claimCut h t) (take k choices)) n
-        in
-        record { length = long ∙ ap length e; text = shown ∙ ap (λ (l : List ℕ). l ++ drop r text) e }
+-- the refusal over tables that are cut, the choice list aside
+pub refused-cut : (h : Header) (count : Lengths) (t : Tables) (chosen : ℕ) → count ≡ countsOf h → chosen ≡ choiceCount (h .kind) (count .marks) → (v : Verdict)
+    → v ≡ refusalOf (h .kind) (modelTaken h count t) (claimTaken h count t) chosen
+    → v ≡ refusalOf (h .kind) (modelCut h t) (claimCut h t) (chosenIn h)
+refused-cut h count t chosen q f v e = e
+    ∙ ap (λ (x : Model). refusalOf (h .kind) x (claimTaken h count t) chosen) (model-cut h count t q)
+    ∙ ap (λ (x : Claim). refusalOf (h .kind) (modelCut h t) x chosen) (claim-cut h count t q)
+    ∙ ap (refusalOf (h .kind) (modelCut h t) (claimCut h t)) (chosen-counted h count chosen q f)

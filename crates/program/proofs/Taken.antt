@@ -1,24 +1,32 @@
 -- A file that was read, and what is printed for it. Assumes nothing.
 use mathlib.Core.Path.{_≡_, refl, sym, ap, subst, _∙_}
+use mathlib.Core.Bool.{Bool, true, false, cond}
 use mathlib.Core.List.{List}
+use lib.Dec.{ltb}
 use Prim.Native.Nat.{ℕ, _+_, _-_, _*_, _≤_, _<_}
 use native.Mathlib.Omega.{arith}
 use lib.ListN.{length, getD, take, length-append}
 use borrow.Author.Tests.{lt-ltb, le-ltb}
 use Rattle.walk.proofs.Fold as Fold
+use Rattle.model.specs.declared.answers.Verdict.{Verdict}
+use Rattle.model.specs.declared.answers.Verdict.the-variants.{Refused as Refuses}
+use Rattle.model.specs.Answers.{number, then, require}
+use Rattle.model.specs.Checked.{refusalOf}
+use Rattle.model.specs.Kinds.{kindOf}
 use Rattle.model.specs.Tables.{Model, Claim}
+use Rattle.soundness.specs.Demand3.{Holds}
 use Rattle.wire.specs.Blocks.{block}
 use Rattle.certfile.specs.declared.Header.{Header}
 use Rattle.certfile.specs.declared.Outcome.{Outcome}
 use Rattle.certfile.specs.declared.Outcome.the-variants.{Read, Refused}
-use Rattle.certfile.specs.File.{announced, outcomeOf}
-use Rattle.certfile.specs.Tables.{Tables, lent, ReadInto}
+use Rattle.certfile.specs.File.{announced, outcomeOf, tableOf}
+use Rattle.certfile.specs.Tables.{Tables, tables, lent, ReadInto}
 use Rattle.certfile.specs.Contents.{modelIn, claimIn, modelCut, claimCut}
 use Rattle.certfile.proofs.Passed.{ready}
 use Rattle.certfile.proofs.Contents.{model-read, claim-read}
-use Rattle.model.specs.Refusals.{choiceCount}
-use Rattle.program.specs.Printed.{checkedText, readText, refusedText, printedOf, mostBytes, room, blank}
-use Rattle.program.specs.Shows.{Shows, Roomy, Enough}
+use Rattle.program.specs.declared.Told.{Told}
+use Rattle.program.specs.Printed.{openedOf, refusalIn, verdictIn, readText, refusedText, choicesIn, chosenIn, filledBy}
+use Rattle.program.specs.Shows.{Shows, Roomy, Long, Enough, OpenedInto, Judged, Unprinted, Answered}
 
 pub lengths-kept : (t u : Tables)
     → length (u .marks) ≡ length (t .marks)
@@ -32,58 +40,121 @@ pub lengths-kept : (t u : Tables)
     → lent u ≡ lent t
 lengths-kept t u a b c d e f g h = rw (a, b, c, d, e, f, g, h)
 
-pub shows-same : {bytes bytes′ : List ℕ} {r : ℕ} {before after : List ℕ} → bytes ≡ bytes′ → Shows bytes r before after → Shows bytes′ r before after
-shows-same e p = rw (← e) p
-
-read-is : (h : Header) (file choices : List ℕ) → checkedText (h .kind) (modelIn h file) (claimIn h file) (take (choiceCount (h .kind) (h .n)) choices) ≡ readText (Read h) file choices
-unfolding readText
-read-is h file choices = refl
-
-refused-is : (number place : ℕ) (file choices : List ℕ) → refusedText number place ≡ readText (Refused number place) file choices
-unfolding readText
-refused-is number place file choices = refl
-
 -- tables that a file was read into have room for its blocks
 pub roomy : (o : Outcome) (file : List ℕ) (t u : Tables) → ReadInto o file t u → (h : Header) → o ≡ Read h → lent u ≡ lent t → Roomy h (lent u)
 roomy o file t u w h e kept =
     λ i. subst (λ (l : List ℕ). block (announced h) i .count ≤ getD l i 0) (sym kept) (ready (lent t) file h (sym (w .answer) ∙ e) i .1)
 
-module _ (o : Outcome) (file : List ℕ) (t u : Tables) (choices text : List ℕ) (w : ReadInto o file t u) where
+-- over-long input is refused before all else, and any other is read
+pub too-long : (most : ℕ) (file : List ℕ) (t : Tables) → most < length file → OpenedInto most (Refused 33 0) file t t
+unfolding openedOf tableOf
+too-long most file t h = record { answer = rw (lt-ltb most (length file) h); tables = refl }
+
+pub not-too-long : (most : ℕ) (file : List ℕ) (t u : Tables) (o : Outcome) → length file ≤ most → ReadInto o file t u → OpenedInto most o file t u
+unfolding openedOf
+not-too-long most file t u o h w =
+    record {
+      answer = rw (le-ltb most (length file) h) (w .answer);
+      tables = λ j. tables (w .marks j) (w .actionStarts j) (w .branchStarts j) (w .destinations j) (w .weights j) (w .costs j) (w .claims j) (w .ranks j);
+    }
+
+module _ (most : ℕ) (o : Outcome) (file : List ℕ) (t u : Tables) (w : OpenedInto most o file t u) where
+  abbrev opened : Outcome
+  opened = openedOf most (lent t) file
+
+  filled : u ≡ filledBy opened file t
+  filled = w .tables ∙ ap (λ (x : Outcome). filledBy x file t) (w .answer)
+
   module _ (h : Header) (e : o ≡ Read h) where
-    -- what checking asks of the tables, the choice list and the text
-    pub enough : lent u ≡ lent t → length (t .marks) ≤ length choices → 64 + 32 * length choices ≤ length text → Enough h (lent u) choices text
-    unfolding block announced
-    enough kept few long =
-        let at = roomy o file t u w h e kept in
+    -- a file that is read was short enough
+    was-read : outcomeOf (lent t) file ≡ Read h
+    unfolding openedOf
+    was-read = by (ltb most (length file)) (sym (w .answer) ∙ e)
+      where
+        by : (b : Bool) → cond b (Refused 33 0) (outcomeOf (lent t) file) ≡ Read h → outcomeOf (lent t) file ≡ Read h
+        by true p = let z : _≡_ {A = ℕ} 0 1 = cc in absurd (omega arith)
+        by false p = p
+
+    pub read-into : ReadInto o file t u
+    read-into =
         record {
-          tables = at;
-          states = omega (arith, at 0, ap (λ (l : List ℕ). getD l 0 0) kept);
-          bytes = long;
+          answer = e ∙ sym was-read;
+          marks = ap (λ (x : Tables). x .marks) (w .tables);
+          actionStarts = ap (λ (x : Tables). x .actionStarts) (w .tables);
+          branchStarts = ap (λ (x : Tables). x .branchStarts) (w .tables);
+          destinations = ap (λ (x : Tables). x .destinations) (w .tables);
+          weights = ap (λ (x : Tables). x .weights) (w .tables);
+          costs = ap (λ (x : Tables). x .costs) (w .tables);
+          claims = ap (λ (x : Tables). x .claims) (w .tables);
+          ranks = ap (λ (x : Tables). x .ranks) (w .tables);
         }
 
-    pub printed-read : (r : ℕ) (text′ : List ℕ)
-        → Shows (checkedText (h .kind) (modelCut h u) (claimCut h u) (take (choiceCount (h .kind) (h .n)) choices)) r text text′
-        → Shows (readText (outcomeOf (lent t) file) file choices) r text text′
-    printed-read r text′ p =
-        shows-same
-        (ap (λ (x : Model). checkedText (h .kind) x (claimCut h u) (take (choiceCount (h .kind) (h .n)) choices)) (model-read o file t u w h e)
-        ∙ ap (λ (x : Claim). checkedText (h .kind) (modelIn h file) x (take (choiceCount (h .kind) (h .n)) choices)) (claim-read o file t u w h e)
-        ∙ read-is h file choices
-        ∙ ap (λ (x : Outcome). readText x file choices) (sym e ∙ w .answer))
-        p
+    opened-read : Read h ≡ opened
+    opened-read = sym e ∙ w .answer
 
-  pub printed-refused : (number place : ℕ) → o ≡ Refused number place → (r : ℕ) (text′ : List ℕ) → Shows (refusedText number place) r text text′ → Shows (readText (outcomeOf (lent t) file) file choices) r text text′
-  printed-refused number place e r text′ p =
-      shows-same (refused-is number place file choices ∙ ap (λ (x : Outcome). readText x file choices) (sym e ∙ w .answer)) p
+    -- the number of a refusal over tables, or 5
+    refusal-is : refusalOf (h .kind) (modelCut h u) (claimCut h u) (chosenIn h) ≡ refusalIn opened file
+    unfolding refusalIn
+    refusal-is =
+        ap (λ (x : Model). refusalOf (h .kind) x (claimCut h u) (chosenIn h)) (model-read o file t u read-into h e)
+        ∙ ap (λ (x : Claim). refusalOf (h .kind) (modelIn h file) x (chosenIn h)) (claim-read o file t u read-into h e)
+        ∙ ap (λ (x : Outcome). refusalIn x file) opened-read
 
--- over-long input is refused before all else
-pub too-long : (file : List ℕ) → mostBytes < length file → refusedText 33 0 ≡ printedOf file
-unfolding printedOf
-too-long file h = rw (lt-ltb mostBytes (length file) h)
+    pub number-read : (v v′ : Verdict) (r : ℕ) → v ≡ refusalOf (h .kind) (modelCut h u) (claimCut h u) (chosenIn h) → v′ ≡ then v (require false 5 0) → r ≡ number v′
+        → Unprinted opened file t r u
+    unfolding require
+    number-read v v′ r p q z = record { number = z ∙ ap number q ∙ ap (λ (x : Verdict). number (then x (Refuses 5 0))) (p ∙ refusal-is); tables = filled }
 
-pub not-too-long : (file : List ℕ) → length file ≤ mostBytes → readText (outcomeOf room file) file blank ≡ printedOf file
-unfolding printedOf
-not-too-long file h = rw (le-ltb mostBytes (length file) h)
+    module _ (list text : List ℕ) where
+      -- what checking asks of the tables, the choice list and the text
+      pub enough : lent u ≡ lent t → Long (length (t .marks)) list text → Enough h (lent u) list text
+      unfolding block announced
+      enough kept long =
+          let at = roomy o file t u read-into h e kept in
+          let fits : h .n ≤ length (t .marks) = omega (arith, at 0, ap (λ (l : List ℕ). getD l 0 0) kept) in
+          record {
+            tables = at;
+            long = record { choices = omega (arith, long .choices); printed = omega (arith, long .printed) };
+          }
+
+      abbrev Promised : Outcome → Model → Claim → Told → List ℕ → List ℕ → Type 0
+      Promised x m c r list′ text′ = Judged (h .kind) m c (chosenIn h) list text r list′ text′ → Answered x file t list text r u list′ text′
+
+      whole : (r : Told) (list′ text′ : List ℕ) → Promised (Read h) (modelIn h file) (claimIn h file) r list′ text′
+      unfolding verdictIn readText choicesIn
+      whole r list′ text′ p =
+          record {
+            number = p .number;
+            shows = p .shows;
+            tables = w .tables ∙ ap (λ (x : Outcome). filledBy x file t) e;
+            choices = p .choices;
+            sound = λ g R same e. subst (λ (x : Header). Holds (kindOf (x .kind)) (modelIn x file) (claimIn x file) R (take (chosenIn x) list′)) (headers same) (p .sound R e);
+          }
+        where
+          headers : {x y : Header} → Read x ≡ Read y → x ≡ y
+          headers s = cc
+
+      pub printed-read : (r : Told) (list′ text′ : List ℕ) → Promised opened (modelCut h u) (claimCut h u) r list′ text′
+      printed-read r list′ text′ =
+          subst (λ (m : Model). Promised opened m (claimCut h u) r list′ text′) (sym (model-read o file t u read-into h e))
+          (subst (λ (c : Claim). Promised opened (modelIn h file) c r list′ text′) (sym (claim-read o file t u read-into h e))
+          (subst (λ (x : Outcome). Promised x (modelIn h file) (claimIn h file) r list′ text′) opened-read (whole r list′ text′)))
+
+  module _ (k p : ℕ) (e : o ≡ Refused k p) where
+    opened-refused : Refused k p ≡ opened
+    opened-refused = sym e ∙ w .answer
+
+    pub number-refused : Unprinted opened file t k u
+    unfolding refusalIn then
+    number-refused = record { number = ap (λ (x : Outcome). number (then (refusalIn x file) (Refuses 5 0))) opened-refused; tables = filled }
+
+    pub printed-refused : (list text : List ℕ) (r : Told) (text′ : List ℕ) → r .number ≡ k → Shows (refusedText k p) (r .bytes) text text′
+        → Answered opened file t list text r u list text′
+    unfolding verdictIn readText choicesIn
+    printed-refused list text r text′ n s = subst (λ (x : Outcome). Answered x file t list text r u list text′) opened-refused whole
+      where
+        whole : Answered (Refused k p) file t list text r u list text′
+        whole = record { number = n; shows = s; tables = w .tables ∙ ap (λ (x : Outcome). filledBy x file t) e; choices = refl; sound = λ h R same q. let z : _≡_ {A = ℕ} 0 1 = cc in absurd (omega arith) }
 
 -- what is shown lies within the text
 pub shown-within : {bytes : List ℕ} {r : ℕ} {before after : List ℕ} → Shows bytes r before after → r ≤ length after

@@ -1,11 +1,23 @@
--- Bytes that stand at the beginning of a text, and the room that checking takes.
+-- Bytes that stand at the beginning of a text, the room that checking takes, and what reading, checking and printing promise.
 use Prim.Native.Nat.{ℕ, _+_, _*_, _≤_}
 use mathlib.Core.Path.{_≡_}
 use mathlib.Core.List.{List, _++_}
-use lib.ListN.{length, getD, drop}
+use lib.ListN.{length, getD, take, drop}
+use Rattle.model.specs.declared.answers.Verdict.the-variants.{Accepted, Refused}
+use Rattle.model.specs.Answers.{number, then}
+use Rattle.model.specs.Kinds.{kindOf}
+use Rattle.model.specs.Tables.{Model, Claim}
+use Rattle.model.specs.Checked.{answerOf, choicesOf}
+use Rattle.soundness.specs.Demand3.{Holds}
 use Rattle.wire.specs.Blocks.{block}
 use Rattle.certfile.specs.declared.Header.{Header}
+use Rattle.certfile.specs.declared.Outcome.{Outcome}
+use Rattle.certfile.specs.declared.Outcome.the-variants.{Read}
 use Rattle.certfile.specs.File.{announced}
+use Rattle.certfile.specs.Tables.{Tables, lent}
+use Rattle.certfile.specs.Contents.{modelIn, claimIn}
+use Rattle.program.specs.declared.Told.{Told}
+use Rattle.program.specs.Printed.{openedOf, refusalIn, verdictIn, checkedText, readText, choicesIn, chosenIn, filledBy}
 
 pub record Shows (bytes : List ℕ) (r : ℕ) (before after : List ℕ) : Type 0 where
   pub length : r ≡ length bytes
@@ -15,8 +27,54 @@ pub record Shows (bytes : List ℕ) (r : ℕ) (before after : List ℕ) : Type 0
 abbrev pub Roomy : Header → List ℕ → Type 0
 Roomy h lent = (i : ℕ) → block (announced h) i .count ≤ getD lent i 0
 
--- and the choice list for a choice of each state, and the text for what is printed
-pub record Enough (h : Header) (lent choices text : List ℕ) : Type 0 where
+-- a choice list has room for a choice of each state, and a text for what may be printed of them
+pub record Long (states : ℕ) (list text : List ℕ) : Type 0 where
+  pub choices : states ≤ length list
+  pub printed : 64 + 32 * states ≤ length text
+
+-- all the room that checking takes
+pub record Enough (h : Header) (lent list text : List ℕ) : Type 0 where
   pub tables : Roomy h lent
-  pub states : h .n ≤ length choices
-  pub bytes : 64 + 32 * length choices ≤ length text
+  pub long : Long (h .n) list text
+
+-- a file was read into lent tables, if it is no longer than the most that is taken
+pub record OpenedInto (most : ℕ) (r : Outcome) (file : List ℕ) (before after : Tables) : Type 0 where
+  pub answer : r ≡ openedOf most (lent before) file
+  pub tables : after ≡ filledBy r file before
+
+-- tables were checked with so many of a list's first entries, and the verdict printed
+pub record Judged
+    (kind : ℕ)
+    (t : Model)
+    (u : Claim)
+    (chosen : ℕ)
+    (list text : List ℕ)
+    (r : Told)
+    (list′ text′ : List ℕ)
+    : Type 0 where
+  pub number : r .number ≡ number (answerOf kind t u (take chosen list) .verdict)
+  pub shows : Shows (checkedText kind t u (take chosen list)) (r .bytes) text text′
+  pub choices : list′ ≡ choicesOf kind t u (take chosen list) ++ drop chosen list
+  pub sound : (R : ℕ) → answerOf kind t u (take chosen list) .verdict ≡ Accepted R → Holds (kindOf kind) t u R (take chosen list′)
+
+-- nothing was printed over what reading answered: the number of the refusal, or 5, and the tables
+pub record Unprinted (o : Outcome) (file : List ℕ) (before : Tables) (r : ℕ) (after : Tables) : Type 0 where
+  pub number : r ≡ number (then (refusalIn o file) (Refused 5 0))
+  pub tables : after ≡ filledBy o file before
+
+-- it was checked and printed: the number, the text, the tables, the choice list, and demand 3 of what is accepted
+pub record Answered
+    (o : Outcome)
+    (file : List ℕ)
+    (before : Tables)
+    (list text : List ℕ)
+    (r : Told)
+    (after : Tables)
+    (list′ text′ : List ℕ)
+    : Type 0 where
+  pub number : r .number ≡ number (verdictIn o file list)
+  pub shows : Shows (readText o file list) (r .bytes) text text′
+  pub tables : after ≡ filledBy o file before
+  pub choices : list′ ≡ choicesIn o file list
+  pub sound : (h : Header) (R : ℕ) → o ≡ Read h → verdictIn o file list ≡ Accepted R
+      → Holds (kindOf (h .kind)) (modelIn h file) (claimIn h file) R (take (chosenIn h) list′)

@@ -1,21 +1,37 @@
-// What the check program prints for a file.
+// What is printed for a file that is read into lent tables, and what the check program prints.
+ghost use mathlib.Core.Path.{_≡_};
+ghost use mathlib.Core.Bool.{_&&_};
 ghost use Prim.Native.Nat.{_+_, _*_, _≤_};
-ghost use lib.ListN.{length, take};
+ghost use lib.Dec.{leb};
+ghost use lib.ListN.{length};
 ghost use Rattle.certfile.specs.Contents.{modelCut, claimCut};
-ghost use Rattle.certfile.specs.File.{outcomeOf};
 ghost use Rattle.certfile.specs.Tables.{tables, lent};
-ghost use Rattle.model.specs.Refusals.{choiceCount};
-ghost use Rattle.program.specs.Printed.{refusedText, checkedText, readText, printedOf};
-ghost use Rattle.program.specs.Shows.{Shows, Enough};
+ghost use Rattle.model.specs.Checked.{refusalOf};
+ghost use Rattle.program.specs.Printed.{openedOf, chosenIn, refusedText, printedOf};
+ghost use Rattle.program.specs.Shows.{Shows, Roomy, Long, Enough, OpenedInto, Judged, Unprinted, Answered};
 use certfile::FileRefusal;
 use certfile::Header;
 use certfile::Outcome;
+use model::Model;
+use model::Refusal;
 use model::Verdict;
 use report::Longest;
 use wire::Width;
 
-// The check program's room: states, actions and branches; the bytes of a file that fills it, which has all eight tables; and the
-// bytes of what is printed.
+// The bytes that a state, an action and a branch take in a file with all eight tables, and what it has besides.
+struct Bytes {}
+
+impl Bytes {
+    const STATE: usize = Width::BYTE + Width::WORD + Width::WORD + Width::LONG + Width::WORD;
+
+    const ACTION: usize = Width::WORD;
+
+    const BRANCH: usize = Width::WORD + Width::WORD;
+
+    const BESIDES: usize = Header::BYTES + Width::WORD + Width::WORD;
+}
+
+// The check program's room: states, actions and branches; the bytes of a file that fills it; and the bytes of what is printed.
 pub struct Room {}
 
 impl Room {
@@ -25,19 +41,28 @@ impl Room {
 
     pub const BRANCHES: usize = 2_000;
 
-    pub const STATE_BYTES: usize = Width::BYTE
-        + Width::WORD
-        + Width::WORD
-        + Width::LONG
-        + Width::WORD;
-
-    pub const BYTES: usize = Header::BYTES
-        + Room::STATES * Room::STATE_BYTES
-        + Width::WORD
-        + (Room::ACTIONS + 1) * Width::WORD
-        + Room::BRANCHES * (Width::WORD + Width::WORD);
+    pub const BYTES: usize = Bytes::BESIDES
+        + Room::STATES * Bytes::STATE
+        + Room::ACTIONS * Bytes::ACTION
+        + Room::BRANCHES * Bytes::BRANCH;
 
     pub const TEXT: usize = Longest::VERDICT + Room::STATES * Longest::CHOICE;
+}
+
+// The most bytes that any file has.
+pub struct Whole {}
+
+impl Whole {
+    pub const BYTES: usize = Bytes::BESIDES
+        + Model::MOST_STATES as usize * Bytes::STATE
+        + Model::MOST_ACTIONS as usize * Bytes::ACTION
+        + Model::MOST_BRANCHES as usize * Bytes::BRANCH;
+}
+
+// What was printed: its number in document 01, and its bytes.
+pub struct Told {
+    pub number: u32,
+    pub bytes: usize,
 }
 
 // Prints a refusal.
@@ -46,6 +71,45 @@ pub fn refused(number: u32, place: u32, text: &mut [u8]) -> usize
     ensures { λ r. ⌜ Shows (refusedText number place) r (now (text .entry)) (now (text .exit)) ⌝ }
 {
     report::print(Verdict::Refused { number, place }, &[], text)
+}
+
+// Reads a file into lent tables, if it is no longer than the most that is taken.
+fn load(
+    most: usize,
+    file: &[u8],
+    marks: &mut [u8],
+    action_starts: &mut [u32],
+    branch_starts: &mut [u32],
+    destinations: &mut [u32],
+    weights: &mut [u32],
+    costs: &mut [u32],
+    claims: &mut [u64],
+    ranks: &mut [u32],
+) -> Outcome
+    ensures { λ r.
+        let before = tables (now (marks .entry)) (now («action_starts» .entry)) (now («branch_starts» .entry))
+        (now (destinations .entry)) (now (weights .entry)) (now (costs .entry)) (now (claims .entry)) (now (ranks .entry)) in
+        let after = tables (now (marks .exit)) (now («action_starts» .exit)) (now («branch_starts» .exit))
+        (now (destinations .exit)) (now (weights .exit)) (now (costs .exit)) (now (claims .exit)) (now (ranks .exit)) in
+        ⌜ OpenedInto most r (now (file .entry)) before after ⌝ }
+{
+    if most < file.len() {
+        return Outcome::Refused {
+            number: FileRefusal::COUNTS,
+            place: 0,
+        };
+    }
+    certfile::read(
+        file,
+        marks,
+        action_starts,
+        branch_starts,
+        destinations,
+        weights,
+        costs,
+        claims,
+        ranks,
+    )
 }
 
 // Checks the first entries of tables that hold a file, as its header counts them, and prints the verdict.
@@ -61,12 +125,15 @@ fn judged(
     ranks: &[u32],
     choices: &mut [u32],
     text: &mut [u8],
-) -> usize
-    requires { ⌜ Enough h (lent (tables (now marks) (now «action_starts») (now «branch_starts») (now destinations) (now weights) (now costs) (now claims) (now ranks))) (now choices) (now text) ⌝ }
-    ensures { λ r. ⌜ Shows (checkedText (h .kind)
-        (modelCut h (tables (now (marks .entry)) (now («action_starts» .entry)) (now («branch_starts» .entry)) (now (destinations .entry)) (now (weights .entry)) (now (costs .entry)) (now (claims .entry)) (now (ranks .entry))))
-        (claimCut h (tables (now (marks .entry)) (now («action_starts» .entry)) (now («branch_starts» .entry)) (now (destinations .entry)) (now (weights .entry)) (now (costs .entry)) (now (claims .entry)) (now (ranks .entry))))
-        (take (choiceCount (h .kind) (h .n)) (now (choices .entry)))) r (now (text .entry)) (now (text .exit)) ⌝ }
+) -> Told
+    requires { let t = tables (now marks) (now «action_starts») (now «branch_starts») (now destinations)
+        (now weights) (now costs) (now claims) (now ranks) in
+        ⌜ Enough h (lent t) (now choices) (now text) ⌝ }
+    ensures { λ r.
+        let t = tables (now (marks .entry)) (now («action_starts» .entry)) (now («branch_starts» .entry))
+        (now (destinations .entry)) (now (weights .entry)) (now (costs .entry)) (now (claims .entry)) (now (ranks .entry)) in
+        ⌜ Judged (h .kind) (modelCut h t) (claimCut h t) (chosenIn h) (now (choices .entry)) (now (text .entry)) r
+        (now (choices .exit)) (now (text .exit)) ⌝ }
 {
     let count = certfile::counts_of(h);
     let n = count.marks;
@@ -93,11 +160,126 @@ fn judged(
         &mut choices[..chosen],
     );
     let verdict = answer.verdict;
-    report::print(verdict, &choices[..chosen], text)
+    let bytes = report::print(verdict, &choices[..chosen], text);
+    Told {
+        number: verdict.number(),
+        bytes,
+    }
 }
 
-// Reads a file into lent tables, and prints what comes of it.
-fn within(
+// The refusal over the first entries of tables that hold a file, the choice list aside, or a pass.
+fn refusal(
+    h: Header,
+    marks: &[u8],
+    action_starts: &[u32],
+    branch_starts: &[u32],
+    destinations: &[u32],
+    weights: &[u32],
+    costs: &[u32],
+    claims: &[u64],
+    ranks: &[u32],
+) -> Verdict
+    requires { let t = tables (now marks) (now «action_starts») (now «branch_starts») (now destinations)
+        (now weights) (now costs) (now claims) (now ranks) in
+        ⌜ Roomy h (lent t) ⌝ }
+    ensures { λ r.
+        let t = tables (now (marks .entry)) (now («action_starts» .entry)) (now («branch_starts» .entry))
+        (now (destinations .entry)) (now (weights .entry)) (now (costs .entry)) (now (claims .entry)) (now (ranks .entry)) in
+        ⌜ r ≡ refusalOf (h .kind) (modelCut h t) (claimCut h t) (chosenIn h) ⌝ }
+{
+    let count = certfile::counts_of(h);
+    let n = count.marks;
+    let starts = count.action_starts;
+    let rows = count.branch_starts;
+    let to = count.destinations;
+    let by = count.weights;
+    let costly = count.costs;
+    let claimed = count.claims;
+    let ranked = count.ranks;
+    let chosen = model::choice_count(h.kind, n);
+    checker::refuse(
+        h.kind,
+        h.d,
+        h.c,
+        &marks[..n],
+        &action_starts[..starts],
+        &branch_starts[..rows],
+        &destinations[..to],
+        &weights[..by],
+        &costs[..costly],
+        &claims[..claimed],
+        &ranks[..ranked],
+        chosen,
+    )
+}
+
+// Whether a choice list and a text of these lengths are long enough for so many states.
+pub fn long_enough(states: usize, choices: usize, text: usize) -> bool
+    ensures { λ r. ⌜ r ≡ (leb states choices && leb (64 + 32 * states) text) ⌝ }
+{
+    if choices < states {
+        return false;
+    }
+    if text < Longest::VERDICT {
+        return false;
+    }
+    states <= (text - Longest::VERDICT) / Longest::CHOICE
+}
+
+// The number where nothing can be printed: that of the refusal over the file or its tables, else 5.
+pub fn unprinted(
+    most: usize,
+    file: &[u8],
+    marks: &mut [u8],
+    action_starts: &mut [u32],
+    branch_starts: &mut [u32],
+    destinations: &mut [u32],
+    weights: &mut [u32],
+    costs: &mut [u32],
+    claims: &mut [u64],
+    ranks: &mut [u32],
+) -> u32
+    ensures { λ r.
+        let before = tables (now (marks .entry)) (now («action_starts» .entry)) (now («branch_starts» .entry))
+        (now (destinations .entry)) (now (weights .entry)) (now (costs .entry)) (now (claims .entry)) (now (ranks .entry)) in
+        let after = tables (now (marks .exit)) (now («action_starts» .exit)) (now («branch_starts» .exit))
+        (now (destinations .exit)) (now (weights .exit)) (now (costs .exit)) (now (claims .exit)) (now (ranks .exit)) in
+        let o = openedOf most (lent before) (now (file .entry)) in
+        ⌜ Unprinted o (now (file .entry)) before r after ⌝ }
+{
+    let outcome = load(
+        most,
+        file,
+        marks,
+        action_starts,
+        branch_starts,
+        destinations,
+        weights,
+        costs,
+        claims,
+        ranks,
+    );
+    match outcome {
+        Outcome::Read(h) => refusal(
+                h,
+                marks,
+                action_starts,
+                branch_starts,
+                destinations,
+                weights,
+                costs,
+                claims,
+                ranks,
+            )
+            .require(false, Refusal::LENGTH, 0)
+            .number(),
+        Outcome::Refused { number, place: _ } => number,
+    }
+}
+
+// Reads a file into lent tables, checks it and prints the verdict at the beginning of the text.
+pub fn answer_within(
+    most: usize,
     file: &[u8],
     marks: &mut [u8],
     action_starts: &mut [u32],
@@ -109,11 +291,18 @@ fn within(
     ranks: &mut [u32],
     choices: &mut [u32],
     text: &mut [u8],
-) -> usize
-    requires { ⌜ (length (now marks) ≤ length (now choices)) × (64 + 32 * length (now choices) ≤ length (now text)) ⌝ }
-    ensures { λ r. ⌜ Shows (readText (outcomeOf (lent (tables (now (marks .entry)) (now («action_starts» .entry)) (now («branch_starts» .entry)) (now (destinations .entry)) (now (weights .entry)) (now (costs .entry)) (now (claims .entry)) (now (ranks .entry)))) (now (file .entry))) (now (file .entry)) (now (choices .entry))) r (now (text .entry)) (now (text .exit)) ⌝ }
+) -> Told
+    requires { ⌜ Long (length (now marks)) (now choices) (now text) ⌝ }
+    ensures { λ r.
+        let before = tables (now (marks .entry)) (now («action_starts» .entry)) (now («branch_starts» .entry))
+        (now (destinations .entry)) (now (weights .entry)) (now (costs .entry)) (now (claims .entry)) (now (ranks .entry)) in
+        let after = tables (now (marks .exit)) (now («action_starts» .exit)) (now («branch_starts» .exit))
+        (now (destinations .exit)) (now (weights .exit)) (now (costs .exit)) (now (claims .exit)) (now (ranks .exit)) in
+        let o = openedOf most (lent before) (now (file .entry)) in
+        ⌜ Answered o (now (file .entry)) before (now (choices .entry)) (now (text .entry)) r after (now (choices .exit)) (now (text .exit)) ⌝ }
 {
-    let outcome = certfile::read(
+    let outcome = load(
+        most,
         file,
         marks,
         action_starts,
@@ -138,7 +327,10 @@ fn within(
             choices,
             text,
         ),
-        Outcome::Refused { number, place } => refused(number, place, text),
+        Outcome::Refused { number, place } => Told {
+            number,
+            bytes: refused(number, place, text),
+        },
     }
 }
 
@@ -147,9 +339,6 @@ pub fn answer(file: &[u8], text: &mut [u8]) -> usize
     requires { do ⌜ (← ⟦Room::TEXT⟧) ≤ length (now text) ⌝ }
     ensures { λ r. ⌜ Shows (printedOf (now (file .entry))) r (now (text .entry)) (now (text .exit)) ⌝ }
 {
-    if Room::BYTES < file.len() {
-        return refused(FileRefusal::COUNTS, 0, text);
-    }
     let mut marks = [0u8; Room::STATES];
     let mut action_starts = [0u32; Room::STATES + 1];
     let mut branch_starts = [0u32; Room::ACTIONS + 1];
@@ -159,7 +348,8 @@ pub fn answer(file: &[u8], text: &mut [u8]) -> usize
     let mut claims = [0u64; Room::STATES];
     let mut ranks = [0u32; Room::STATES];
     let mut choices = [0u32; Room::STATES];
-    within(
+    let told = answer_within(
+        Room::BYTES,
         file,
         &mut marks,
         &mut action_starts,
@@ -171,5 +361,6 @@ pub fn answer(file: &[u8], text: &mut [u8]) -> usize
         &mut ranks,
         &mut choices,
         text,
-    )
+    );
+    told.bytes
 }

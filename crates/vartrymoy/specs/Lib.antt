@@ -1,3 +1,4 @@
 pub mod Exported
 pub mod Filled
 pub mod Written
+pub mod Answered

@@ -1,10 +1,12 @@
-// The library to link: document 01's check, reader and writer for C and whatever calls C, in numbers and lists of numbers.
+// The library to link: document 01's check, reader and writer, and a file's whole answer, for C and whatever calls C, in numbers and
+// lists of numbers.
 ghost use mathlib.Core.Path.{_≡_};
+ghost use mathlib.Core.List.{[], _∷_};
 ghost use lib.ListN.{length};
-ghost use Rattle.model.specs.Answers.{number, value, action, then};
+ghost use Rattle.model.specs.Answers.{number, value, action};
 ghost use Rattle.model.specs.Tables.{modelOf, claimOf};
-ghost use Rattle.model.specs.declared.answers.Verdict.{Verdict};
 ghost use Rattle.certfile.specs.Tables.{tables};
+ghost use Rattle.vartrymoy.specs.Answered.{opened, listsRight, FileAnsweredInto};
 ghost use Rattle.vartrymoy.specs.Exported.{numbersOf, CheckedInto};
 ghost use Rattle.vartrymoy.specs.Filled.{numberOr, headerAfter, FileReadInto};
 ghost use Rattle.vartrymoy.specs.Written.{writtenOr, pairOf, FileWrittenInto};
@@ -14,40 +16,39 @@ use model::Answer;
 use model::Rank;
 use model::Refusal;
 use model::Verdict;
+use program::Whole;
 use writer::Written;
 
-// The four numbers of an answer, and the length of the list that takes them.
-pub struct Numbers {
-    pub number: u32,
-    pub value: u32,
-    pub action: u32,
-}
+// The length of the list that takes an answer.
+pub struct AnswerList {}
 
-impl Numbers {
+impl AnswerList {
     pub const COUNT: usize = 4;
 }
 
-// Document 01's number of a verdict, and the values beside it.
-fn in_numbers(v: Verdict) -> Numbers
-    ensures { λ r. ⌜ (r .number ≡ number v) × ((r .value ≡ value v) × (r .action ≡ action v)) ⌝ }
+// What a verdict has beside its number.
+struct Values {
+    value: u32,
+    action: u32,
+}
+
+fn values_of(v: Verdict) -> Values
+    ensures { λ r. ⌜ (r .value ≡ value v) × (r .action ≡ action v) ⌝ }
 {
     match v {
-        Verdict::Accepted { rank } => Numbers {
-            number: 0,
+        Verdict::Accepted { rank } => Values {
             value: rank,
             action: Rank::NONE,
         },
-        Verdict::Refused { number, place } => Numbers {
-            number,
+        Verdict::Refused { number: _, place } => Values {
             value: place,
             action: Rank::NONE,
         },
         Verdict::Violated {
-            number,
+            number: _,
             state,
             action,
-        } => Numbers {
-            number,
+        } => Values {
             value: state,
             action,
         },
@@ -61,23 +62,13 @@ fn put(r: Answer, answer: &mut [u32]) -> u32
     ensures answer { λ x. ⌜ now (answer .exit) ≡ numbersOf r ⌝ }
 {
     let verdict = r.verdict;
-    let x = in_numbers(verdict);
-    answer[0] = x.number;
+    let number = verdict.number();
+    let x = values_of(verdict);
+    answer[0] = number;
     answer[1] = x.value;
     answer[2] = x.action;
     answer[3] = r.kind;
-    x.number
-}
-
-// The number where no answer can be written: a numbered refusal, else 5.
-fn unanswered(v: Verdict) -> u32
-    ensures { λ r. ⌜ r ≡ number (then v (Verdict.Refused 5 0)) ⌝ }
-{
-    if v.accepts() {
-        return Refusal::LENGTH;
-    }
-    let x = in_numbers(v);
-    x.number
+    number
 }
 
 // Judges the claim that the lent tables make, as checker::check does, and answers its number.
@@ -99,8 +90,8 @@ pub extern "C" fn vartrymoy_check(
 ) -> u32
     ensures { λ r. ⌜ CheckedInto kind (modelOf d (now (marks .entry)) (now («action_starts» .entry)) (now («branch_starts» .entry)) (now (destinations .entry)) (now (weights .entry))) (claimOf c (now (costs .entry)) (now (claims .entry)) (now (ranks .entry))) (now (choices .entry)) (now (answer .entry)) r (now (choices .exit)) (now (answer .exit)) ⌝ }
 {
-    if answer.len() != Numbers::COUNT {
-        return unanswered(checker::refuse(
+    if answer.len() != AnswerList::COUNT {
+        let refusal = checker::refuse(
             kind,
             d,
             c,
@@ -113,7 +104,8 @@ pub extern "C" fn vartrymoy_check(
             claims,
             ranks,
             choices.len(),
-        ));
+        );
+        return refusal.require(false, Refusal::LENGTH, 0).number();
     }
     put(
         checker::check(
@@ -231,20 +223,23 @@ fn written_or(w: Written, written: u32) -> u32
     }
 }
 
+// Writes two numbers into a list of two.
+fn put_two(first: u64, second: u64, result: &mut [u64])
+    requires { ⌜ length (now result) ≡ 2 ⌝ }
+    ensures { λ _. ⌜ now (result .exit) ≡ first ∷ second ∷ [] ⌝ }
+{
+    result[0] = first;
+    result[1] = second;
+}
+
 // Writes what writing answered into a list of two.
-fn put_pair(w: Written, result: &mut [u64])
+fn put_written(w: Written, result: &mut [u64])
     requires { ⌜ length (now result) ≡ 2 ⌝ }
     ensures { λ _. ⌜ now (result .exit) ≡ pairOf w ⌝ }
 {
     match w {
-        Written::Length { bytes } => {
-            result[0] = 0;
-            result[1] = bytes as u64;
-        }
-        Written::Refused { number, place } => {
-            result[0] = number as u64;
-            result[1] = place as u64;
-        }
+        Written::Length { bytes } => put_two(0, bytes as u64, result),
+        Written::Refused { number, place } => put_two(number as u64, place as u64, result),
     }
 }
 
@@ -298,6 +293,75 @@ pub extern "C" fn vartrymoy_write(
         ranks,
         buffer,
     );
-    put_pair(written, result);
+    put_written(written, result);
     written_or(written, 0)
+}
+
+// Whether the lists that take what is answered have lengths with which it can be written.
+fn lists_right(states: usize, choices: usize, text: usize, result: usize) -> bool
+    ensures { λ r. ⌜ r ≡ listsRight states choices text result ⌝ }
+{
+    if result != ResultList::COUNT {
+        return false;
+    }
+    program::long_enough(states, choices, text)
+}
+
+// Reads a file into the lent tables, checks it, puts what is printed at the beginning of the text, and answers its number.
+#[no_mangle]
+pub extern "C" fn vartrymoy_answer(
+    file: &[u8],
+    marks: &mut [u8],
+    action_starts: &mut [u32],
+    branch_starts: &mut [u32],
+    destinations: &mut [u32],
+    weights: &mut [u32],
+    costs: &mut [u32],
+    claims: &mut [u64],
+    ranks: &mut [u32],
+    choices: &mut [u32],
+    text: &mut [u8],
+    result: &mut [u64],
+) -> u32
+    ensures { λ r.
+        let before = tables (now (marks .entry)) (now («action_starts» .entry)) (now («branch_starts» .entry))
+        (now (destinations .entry)) (now (weights .entry)) (now (costs .entry)) (now (claims .entry)) (now (ranks .entry)) in
+        let after = tables (now (marks .exit)) (now («action_starts» .exit)) (now («branch_starts» .exit))
+        (now (destinations .exit)) (now (weights .exit)) (now (costs .exit)) (now (claims .exit)) (now (ranks .exit)) in
+        let right = listsRight (length (now (marks .entry))) (length (now (choices .entry)))
+        (length (now (text .entry))) (length (now (result .entry))) in
+        ⌜ FileAnsweredInto right (opened before (now (file .entry))) (now (file .entry))
+        before (now (choices .entry)) (now (text .entry)) (now (result .entry)) r
+        after (now (choices .exit)) (now (text .exit)) (now (result .exit)) ⌝ }
+{
+    if !lists_right(marks.len(), choices.len(), text.len(), result.len()) {
+        return program::unprinted(
+            Whole::BYTES,
+            file,
+            marks,
+            action_starts,
+            branch_starts,
+            destinations,
+            weights,
+            costs,
+            claims,
+            ranks,
+        );
+    }
+    let told = program::answer_within(
+        Whole::BYTES,
+        file,
+        marks,
+        action_starts,
+        branch_starts,
+        destinations,
+        weights,
+        costs,
+        claims,
+        ranks,
+        choices,
+        text,
+    );
+    put_two(told.number as u64, told.bytes as u64, result);
+    told.number
 }

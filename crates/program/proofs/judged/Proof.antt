@@ -6,7 +6,7 @@ use native.Mathlib.Omega.{arith}
 use lib.ListN.{length, take}
 use lib.Seq.{length-take-le}
 use Rattle.certfile.specs.Tables.{Tables, tables}
-use Rattle.program.proofs.Cut.{Cuts, cuts, choices-fit, still-fits, still-cut, printed}
+use Rattle.program.proofs.Cut.{Cuts, cuts, chosen-few, still-fits, still-cut, printed}
 use borrow.Author.Needs.{needs}
 use Rattle.program.proofs.judged.Statement.{statement}
 use Rattle.program.proofs.judged.Tie as tie
@@ -19,8 +19,11 @@ lists c =
 all : (c : tie.After-choice-count) → Cuts (c .before .counts-of .result) (lists (c .before .before .before .before .before .before .before .before .before .before .before .before))
 all c = cuts _ _ _ (c .before .counts-of .ensures .0) (c .before .before .before .before .before .before .before .before .before .before .before .before .pre .tables)
 
+few-states : (c : tie.After-choice-count) → c .choice-count .result ≤ c .before .before .before .before .before .before .before .before .before .before .before .before .args .h .n
+few-states c = chosen-few _ _ _ (c .before .counts-of .ensures .0) (c .choice-count .ensures)
+
 few : (c : tie.After-choice-count) → c .choice-count .result ≤ length (c .before .before .before .before .before .before .before .before .before .before .before .before .args .choices .now)
-few c = choices-fit _ _ _ _ _ _ (c .before .counts-of .ensures .0) (c .before .before .before .before .before .before .before .before .before .before .before .before .pre) (c .choice-count .ensures)
+few c = omega (arith, few-states c, c .before .before .before .before .before .before .before .before .before .before .before .before .pre .long .choices)
 
 abbrev after : tie.After-check → List ℕ
 after c = c .check .last .1 .1 .1 .1 .1 .1 .1 .1 .1 .1 .1 .0
@@ -69,20 +72,20 @@ print-requires c κs =
     let checked = c .before .before .before .before in
     let counted = checked .before .before .before .before .before .before .before .before .before .before in
     let start = counted .before .before .before .before .before .before .before .before .before .before .before .before in
-    omega (arith, still-cut (counted .choice-count .result) (start .args .choices .now) (after checked) (few counted) (kept checked), few counted, start .pre .bytes)
+    omega (arith, still-cut (counted .choice-count .result) (start .args .choices .now) (after checked) (few counted) (kept checked), few-states counted, start .pre .long .printed)
 
 returns : tie.Need-returns
 returns c =
-    let checked = c .before .before .before .before .before .before .before in
+    let checked = c .before .before .before .before .before .before .before .before in
     let counted = checked .before .before .before .before .before .before .before .before .before .before in
     let start = counted .before .before .before .before .before .before .before .before .before .before .before .before in
-    printed _ _ (after checked) (few counted) (kept checked) (start .args .h) _ (lists start) (counted .before .counts-of .ensures .0) (counted .choice-count .ensures) _ _ _ _
-    (checked .check .ensures) (c .before .before .print .ensures .0) (c .before .before .print .ensures .1)
+    printed _ _ (after checked) (few counted) (kept checked) (start .args .h) _ (lists start) (counted .before .counts-of .ensures .0) (counted .choice-count .ensures) _
+    (checked .check .ensures) _ _ _ (c .number .ensures) (c .before .before .before .print .ensures .0) (c .before .before .before .print .ensures .1)
 
 pub judged-spec : {M : Type 1} → statement M
 judged-spec =
     tie.close
     (tie.spec (λ c κs. search needs) (λ c κs. search needs) slice-aggregate-check slice-aggregate-check-2 slice-aggregate-check-3
     slice-aggregate-check-4 slice-aggregate-check-5 slice-aggregate-check-6 slice-aggregate-check-7 slice-aggregate-check-8 slice-relend-prefix-check
-    slice-aggregate-check-9 (λ c κs. tt) slice-reshare-prefix-print slice-aggregate-print print-requires (λ c. search needs) (λ c. search needs)
-    returns)
+    slice-aggregate-check-9 (λ c κs. tt) slice-reshare-prefix-print slice-aggregate-print print-requires (λ c κs. search needs) (λ c. search needs)
+    (λ c. search needs) returns)
