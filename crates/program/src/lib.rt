@@ -299,7 +299,8 @@ pub fn answer_within(
         let after = tables (now (marks .exit)) (now («action_starts» .exit)) (now («branch_starts» .exit))
         (now (destinations .exit)) (now (weights .exit)) (now (costs .exit)) (now (claims .exit)) (now (ranks .exit)) in
         let o = openedOf most (lent before) (now (file .entry)) in
-        ⌜ Answered o (now (file .entry)) before (now (choices .entry)) (now (text .entry)) r after (now (choices .exit)) (now (text .exit)) ⌝ }
+        ⌜ Answered o (now (file .entry)) before (now (choices .entry)) (now (text .entry)) r
+        after (now (choices .exit)) (now (text .exit)) ⌝ }
 {
     let outcome = load(
         most,

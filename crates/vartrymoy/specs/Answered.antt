@@ -36,7 +36,7 @@ pub record FileAnsweredInto
     (after : Tables)
     (list′ text′ result′ : List ℕ)
     : Type 0 where
-  pub number : r ≡ cond right (number (verdictIn o file list)) (number (then (refusalIn o file) (Refused 5 0)))
+  pub answer : r ≡ cond right (number (verdictIn o file list)) (number (then (refusalIn o file) (Refused 5 0)))
   pub printed : text′ ≡ cond right (readText o file list ++ drop (length (readText o file list)) text) text
   pub told : result′ ≡ cond right (number (verdictIn o file list) ∷ length (readText o file list) ∷ []) result
   pub choices : list′ ≡ cond right (choicesIn o file list) list

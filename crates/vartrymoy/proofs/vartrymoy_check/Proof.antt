@@ -8,7 +8,7 @@ use lib.ListN.{length}
 use Rattle.model.specs.declared.answers.Answer.{Answer}
 use Rattle.model.specs.declared.answers.Verdict.{Verdict}
 use Rattle.model.specs.declared.answers.Verdict.the-variants.{Refused}
-use Rattle.model.specs.Answers.{number, then}
+use Rattle.model.specs.Answers.{number, then, require}
 use Rattle.model.specs.Tables.{Model, Claim}
 use Rattle.model.specs.Checked.{refusalOf}
 use Rattle.checker.specs.Promise.{Checked}
@@ -40,7 +40,8 @@ module _ (kind : ℕ) (t : Model) (u : Claim) (before answer : List ℕ) where
       }
 
 returns : tie.Need-returns
-returns c = shut _ _ _ _ _ (c .before .before .if1 .taken) _ _ (c .before .refuse .ensures) (c .unanswered .ensures)
+unfolding require
+returns c = shut _ _ _ _ _ (c .before .before .before .if1 .taken) _ _ (c .before .before .refuse .ensures) (c .number .ensures ∙ ap number (c .before .require .ensures))
 
 returns-2 : tie.Need-returns-2
 returns-2 c = answered _ _ _ _ _ (c .before .before .before .before .before .before .before .before .if1 .left) _ _ _ _ (c .before .before .before .before .before .before .check .ensures) (c .before .before .put .ensures .0) (c .before .before .put .ensures .1)
@@ -48,5 +49,5 @@ returns-2 c = answered _ _ _ _ _ (c .before .before .before .before .before .bef
 pub vartrymoy-check-spec : {M : Type 1} → statement M
 vartrymoy-check-spec =
     tie.close
-    (tie.spec (λ c κs. search needs) (λ c κs. search needs) returns (λ c κs. search needs) (λ c κs. c .before .before .before .before .before .if1 .left) (λ c. search needs)
+    (tie.spec (λ c κs. search needs) (λ c κs. search needs) (λ c κs. search needs) returns (λ c κs. search needs) (λ c κs. c .before .before .before .before .before .if1 .left) (λ c. search needs)
     (λ c. search needs) returns-2)

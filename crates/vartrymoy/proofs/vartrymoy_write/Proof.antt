@@ -34,14 +34,14 @@ module _ (kind : ℕ) (t : Model) (u : Claim) (before list : List ℕ) where
 returns : tie.Need-returns
 returns c = shut _ _ _ _ _ (c .before .before .if1 .taken) _ _ (c .before .preview .ensures) (c .written-or .ensures)
 
-put-pair-requires : tie.Need-put-pair-requires
-put-pair-requires c κs = c .before .before .before .before .before .if1 .left
+put-written-requires : tie.Need-put-written-requires
+put-written-requires c κs = c .before .before .before .before .before .if1 .left
 
 returns-2 : tie.Need-returns-2
-returns-2 c = opened _ _ _ _ _ (c .before .before .before .before .before .before .before .before .before .if1 .left) _ _ _ _ (c .before .before .before .before .before .before .before .write .ensures) (c .before .before .before .put-pair .ensures) (c .written-or2 .ensures)
+returns-2 c = opened _ _ _ _ _ (c .before .before .before .before .before .before .before .before .before .if1 .left) _ _ _ _ (c .before .before .before .before .before .before .before .write .ensures) (c .before .before .before .put-written .ensures) (c .written-or2 .ensures)
 
 pub vartrymoy-write-spec : {M : Type 1} → statement M
 vartrymoy-write-spec =
     tie.close
-    (tie.spec (λ c κs. search needs) (λ c κs. search needs) returns (λ c κs. search needs) put-pair-requires (λ c κs. search needs)
+    (tie.spec (λ c κs. search needs) (λ c κs. search needs) returns (λ c κs. search needs) put-written-requires (λ c κs. search needs)
     (λ c. search needs) (λ c. search needs) returns-2)
