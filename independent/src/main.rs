@@ -7,7 +7,7 @@ use std::io::{self, BufReader, BufWriter, Read, Write};
 use std::process::ExitCode;
 
 use independent::generate;
-use independent::program::{answer, MAX_INPUT};
+use independent::program::{answer, Room};
 use independent::rewrite::rewrite;
 use independent::stream::{read_case, write_case};
 
@@ -76,7 +76,7 @@ impl Command {
                     write_case(&mut out, &fs::read(file)?)?;
                 }
             }
-            Command::Answers => for_each_case(|case| write!(out, "{}", answer(case)))?,
+            Command::Answers => for_each_case(|case| write!(out, "{}", answer(case, Room::CHECK)))?,
             Command::Rewrite => for_each_case(|case| writeln!(out, "{}", rewrite(case)))?,
             Command::Census => print_census(&mut out)?,
         }
@@ -86,10 +86,10 @@ impl Command {
 
 fn print_check(out: &mut impl Write) -> io::Result<()> {
     // One byte more than fits is enough to see that it does not.
-    let longest = MAX_INPUT as u64 + 1;
+    let longest = Room::CHECK.most_bytes() as u64 + 1;
     let mut input = Vec::new();
     io::stdin().lock().take(longest).read_to_end(&mut input)?;
-    write!(out, "{}", answer(&input))
+    write!(out, "{}", answer(&input, Room::CHECK))
 }
 
 fn for_each_case(mut each: impl FnMut(&[u8]) -> io::Result<()>) -> io::Result<()> {
@@ -105,7 +105,7 @@ fn print_census(out: &mut impl Write) -> io::Result<()> {
     let mut totals = BTreeMap::new();
     let mut by_kind = BTreeMap::new();
     for_each_case(|case| {
-        let answer = answer(case);
+        let answer = answer(case, Room::CHECK);
         let number = answer.verdict.number();
         *totals.entry(number).or_insert(0u64) += 1;
         if let (0 | 21..=24, Some(kind)) = (number, answer.kind) {

@@ -6,7 +6,7 @@ use std::collections::BTreeMap;
 use independent::check::{Refusal, Verdict};
 use independent::generate::case;
 use independent::kind::Kind;
-use independent::program::{answer, MAX_INPUT};
+use independent::program::{answer, Room};
 use independent::rewrite::{rewrite, Rewritten};
 use independent::stream::{read_case, write_case};
 
@@ -19,7 +19,7 @@ fn assert_census(seed: u64) {
     let mut totals = BTreeMap::new();
     let mut by_kind = BTreeMap::new();
     for index in 0..CASES {
-        let answer = answer(&case(seed, index));
+        let answer = answer(&case(seed, index), Room::CHECK);
         let number = answer.verdict.number();
         *totals.entry(number).or_insert(0) += 1;
         *by_kind.entry((number, answer.kind)).or_insert(0) += 1;
@@ -51,7 +51,7 @@ fn every_answer_occurs_often_enough() {
 #[test]
 fn what_is_not_refused_is_written_anew() {
     for file in (0..CASES).map(|index| case(3, index)) {
-        let expected = match answer(&file).verdict {
+        let expected = match answer(&file, Room::CHECK).verdict {
             Verdict::Refused { number, place } => Rewritten::Refused(Refusal { number, place }),
             _ => Rewritten::Same { length: file.len() },
         };
@@ -68,12 +68,12 @@ fn the_size_stays_small() {
 #[test]
 fn the_room_is_filled_and_overfilled() {
     let full = case(1, 999);
-    assert_eq!(full.len(), MAX_INPUT);
+    assert_eq!(full.len(), Room::CHECK.most_bytes());
     assert!(matches!(
-        answer(&full).verdict,
+        answer(&full, Room::CHECK).verdict,
         Verdict::Accepted { greatest_rank } if greatest_rank > 0
     ));
-    assert_eq!(case(1, 1_999).len(), MAX_INPUT + 1);
+    assert_eq!(case(1, 1_999).len(), Room::CHECK.most_bytes() + 1);
 }
 
 #[test]
