@@ -5,6 +5,7 @@
 //! as all other lengths follow from the counts.
 
 mod damage;
+pub mod limits;
 mod model;
 mod near;
 mod rng;
