@@ -163,36 +163,74 @@ fn kind_of(header: &Header) -> Kind {
     Kind::numbered(header.kind).expect("the reader refuses other kinds")
 }
 
-impl fmt::Display for Answer {
-    fn fmt(&self, out: &mut fmt::Formatter) -> fmt::Result {
+impl Answer {
+    /// Puts what is printed at the end of a text.
+    pub fn print(&self, text: &mut Vec<u8>) {
         match self.verdict {
-            Verdict::Accepted { greatest_rank } => writeln!(out, "accepted {greatest_rank}"),
-            Verdict::Refused { number, place } => writeln!(out, "refused {number} {place}"),
+            Verdict::Accepted { greatest_rank } => {
+                put_line(text, "accepted", &[Some(greatest_rank)]);
+            }
+            Verdict::Refused { number, place } => {
+                put_line(text, "refused", &[Some(number), Some(place)]);
+            }
             Verdict::Violated {
                 number,
                 state,
                 action,
-            } => {
-                let action = OrDash(action);
-                writeln!(out, "violated {number} {state} {action}")
-            }
-        }?;
-        for (state, &choice) in self.choices.iter().enumerate() {
-            let choice = OrDash((choice != NONE).then_some(choice));
-            writeln!(out, "{state} {choice}")?;
+            } => put_line(text, "violated", &[Some(number), Some(state), action]),
         }
-        Ok(())
+        text.reserve(self.choices.len() * LONGEST_CHOICE_LINE);
+        for (state, &choice) in self.choices.iter().enumerate() {
+            put_number(text, state as u32);
+            text.push(b' ');
+            put_or_dash(text, (choice != NONE).then_some(choice));
+            text.push(b'\n');
+        }
     }
 }
 
-/// Prints a number, or `-` for none.
-struct OrDash(Option<u32>);
-
-impl fmt::Display for OrDash {
+impl fmt::Display for Answer {
     fn fmt(&self, out: &mut fmt::Formatter) -> fmt::Result {
-        match self.0 {
-            Some(number) => write!(out, "{number}"),
-            None => write!(out, "-"),
+        let mut text = Vec::new();
+        self.print(&mut text);
+        out.write_str(std::str::from_utf8(&text).expect("letters, digits and signs"))
+    }
+}
+
+/// The digits of the greatest number.
+const MOST_DIGITS: usize = 10;
+const LONGEST_CHOICE_LINE: usize = MOST_DIGITS + 1 + MOST_DIGITS + 1;
+
+fn put_line(text: &mut Vec<u8>, word: &str, numbers: &[Option<u32>]) {
+    text.extend_from_slice(word.as_bytes());
+    for &number in numbers {
+        text.push(b' ');
+        put_or_dash(text, number);
+    }
+    text.push(b'\n');
+}
+
+/// Puts a number, or `-` for none.
+fn put_or_dash(text: &mut Vec<u8>, number: Option<u32>) {
+    match number {
+        Some(number) => put_number(text, number),
+        None => text.push(b'-'),
+    }
+}
+
+/// By hand, as the formatting of the standard library takes about twice as
+/// long over a whole choice list.
+fn put_number(text: &mut Vec<u8>, number: u32) {
+    let mut digits = [b'0'; MOST_DIGITS];
+    let mut first = MOST_DIGITS;
+    let mut rest = number;
+    loop {
+        first -= 1;
+        digits[first] += (rest % 10) as u8;
+        rest /= 10;
+        if rest == 0 {
+            break;
         }
     }
+    text.extend_from_slice(&digits[first..]);
 }

@@ -172,10 +172,9 @@ fn no_states_pass_the_reader_and_no_actions_too() {
 
 #[test]
 fn long_input_is_refused_before_all_else() {
-    for (room, most) in [(Room::CHECK, 30_534), (Room::WHOLE, 8_820_034)] {
+    for room in [Room::CHECK, Room::WHOLE] {
         let printed = |length| answer(&vec![0; length], room).to_string();
-        assert_eq!(room.most_bytes(), most);
-        assert_eq!(printed(most), "refused 31 0\n");
-        assert_eq!(printed(most + 1), "refused 33 0\n");
+        assert_eq!(printed(room.most_bytes()), "refused 31 0\n");
+        assert_eq!(printed(room.most_bytes() + 1), "refused 33 0\n");
     }
 }
