@@ -149,20 +149,6 @@ fn full_size_files_are_answered() {
 }
 
 #[test]
-fn more_room_changes_no_other_answer() {
-    let mut grown = 0;
-    for file in (0..1_000).map(|index| case(5, index)) {
-        let [in_check, in_whole] = [Room::CHECK, Room::WHOLE].map(|room| answer(&file, room));
-        if in_check.verdict.number() != 33 {
-            assert_eq!(in_check, in_whole, "{file:?}");
-        } else if in_check != in_whole {
-            grown += 1;
-        }
-    }
-    assert!(grown > 0);
-}
-
-#[test]
 fn an_answer_that_cannot_be_written_is_no_answer() {
     let folder = Folder::new("unwritten");
     let accepted = folder.file("accepted", &write(&held(1)));

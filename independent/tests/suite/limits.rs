@@ -3,6 +3,7 @@
 use crate::models::{hash, held};
 use independent::check::{Verdict, MAX_ACTIONS, MAX_BRANCHES, MAX_STATES, NONE};
 use independent::file::{write, Certificate};
+use independent::generate::case;
 use independent::generate::limits::accepted;
 use independent::kind::Kind;
 use independent::program::{answer, Answer, Desk, Room};
@@ -94,6 +95,20 @@ fn what_the_check_program_has_no_room_for() {
     let file = write(&accepted(1, 2_050));
     assert_eq!(answer(&file, Room::CHECK).to_string(), "refused 33 0\n");
     assert_eq!(answer(&file, Room::WHOLE).to_string(), "accepted 0\n");
+}
+
+#[test]
+fn more_room_changes_no_other_answer() {
+    let mut grown = 0;
+    for file in (0..1_000).map(|index| case(5, index)) {
+        let [in_check, in_whole] = [Room::CHECK, Room::WHOLE].map(|room| answer(&file, room));
+        if in_check.verdict.number() != 33 {
+            assert_eq!(in_check, in_whole, "{file:?}");
+        } else if in_check != in_whole {
+            grown += 1;
+        }
+    }
+    assert!(grown > 0);
 }
 
 #[test]
