@@ -11,6 +11,7 @@ use std::time::Instant;
 
 use independent::check::{check, Refusal, Verdict};
 use independent::file;
+use independent::kind::Kind;
 
 include!(concat!(env!("OUT_DIR"), "/padding.rs"));
 
@@ -85,11 +86,8 @@ fn timed(run: &mut impl FnMut()) -> f64 {
 }
 
 fn checked(t: &file::Certificate, number: u32) -> [f64; 2] {
-    let room = if tables::some(t.kind) {
-        t.marks.len()
-    } else {
-        0
-    };
+    let some = Kind::numbered(t.kind).is_some_and(|kind| kind.some);
+    let room = if some { t.marks.len() } else { 0 };
     let (mut choices, mut their_choices) = (vec![0; room], vec![0; room]);
     let times = best(
         || assert_eq!(ours::check(black_box(t), &mut choices)[0], number),
@@ -115,13 +113,8 @@ fn read() -> [f64; 2] {
     let bytes = file::write(&written);
     let (mut first, mut second) = (written.clone(), written.clone());
     let times = best(
-        || {
-            assert_eq!(
-                ours::read(black_box(&bytes), &mut tables::lent(&mut first)),
-                0
-            )
-        },
-        || assert!(file::read(black_box(&bytes), &mut tables::lent(&mut second)).is_ok()),
+        || assert_eq!(ours::read(black_box(&bytes), &mut first.lent()), 0),
+        || assert!(file::read(black_box(&bytes), &mut second.lent()).is_ok()),
     );
     assert!(first == written && second == written);
     times

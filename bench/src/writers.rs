@@ -6,7 +6,7 @@ use std::collections::BTreeMap;
 use independent::check::Refusal;
 use independent::file::Certificate;
 use independent::generate;
-use independent::program::{read, MAX_INPUT};
+use independent::program::{read, Room};
 
 use crate::{independent_write, ours, tables};
 
@@ -16,7 +16,7 @@ pub fn compare(seed: u64, count: u64) {
     let mut numbers: BTreeMap<u64, u64> = BTreeMap::new();
     for index in 0..count {
         let case = generate::case(seed, index);
-        let Ok(mut tables) = read(&case) else {
+        let Ok(mut tables) = read(&case, Room::CHECK) else {
             continue;
         };
         damage(&mut tables, &mut random);
@@ -37,7 +37,7 @@ fn room(file: usize, random: &mut impl FnMut(usize) -> usize) -> usize {
         2 => file + 1,
         3 => random(file + 1),
         4 => file + 100,
-        _ => MAX_INPUT,
+        _ => Room::CHECK.most_bytes(),
     }
 }
 

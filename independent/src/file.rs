@@ -59,6 +59,22 @@ pub struct Certificate {
     pub ranks: Vec<u32>,
 }
 
+impl Certificate {
+    /// Its tables, to read into.
+    pub fn lent(&mut self) -> Lent<'_> {
+        Lent {
+            marks: &mut self.marks,
+            action_starts: &mut self.action_starts,
+            branch_starts: &mut self.branch_starts,
+            destinations: &mut self.destinations,
+            weights: &mut self.weights,
+            costs: &mut self.costs,
+            claims: &mut self.claims,
+            ranks: &mut self.ranks,
+        }
+    }
+}
+
 /// Reads a file. A refusal gives its number (its place is 0) and writes
 /// nothing; success overwrites the first entries of each table present.
 pub fn read(bytes: &[u8], lent: &mut Lent) -> Result<Header, u32> {
@@ -108,16 +124,25 @@ fn counted(kind: u32, [d, c]: [u32; 2], counts: [u32; 3]) -> Option<Header> {
 
 impl Entries {
     pub fn of(header: &Header, kind: Kind) -> Entries {
-        let per_state_if = |present| if present { header.states } else { 0 };
+        let all = Entries::of_all_tables(header.states, header.actions, header.branches);
         Entries {
-            marks: header.states,
-            action_starts: header.states + 1,
-            branch_starts: header.actions + 1,
-            destinations: header.branches,
-            weights: header.branches,
-            costs: per_state_if(kind.cost),
-            claims: header.states,
-            ranks: per_state_if(kind.at_least),
+            costs: if kind.cost { all.costs } else { 0 },
+            ranks: if kind.at_least { all.ranks } else { 0 },
+            ..all
+        }
+    }
+
+    /// Of a file whose kind has all tables.
+    pub const fn of_all_tables(states: usize, actions: usize, branches: usize) -> Entries {
+        Entries {
+            marks: states,
+            action_starts: states + 1,
+            branch_starts: actions + 1,
+            destinations: branches,
+            weights: branches,
+            costs: states,
+            claims: states,
+            ranks: states,
         }
     }
 
@@ -132,7 +157,8 @@ impl Entries {
             && self.ranks <= lent.ranks.len()
     }
 
-    fn file_bytes(&self) -> usize {
+    /// The length of the file.
+    pub const fn file_bytes(&self) -> usize {
         let words = self.action_starts
             + self.branch_starts
             + self.destinations

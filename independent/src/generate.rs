@@ -5,6 +5,7 @@
 //! as all other lengths follow from the counts.
 
 mod damage;
+pub mod limits;
 mod model;
 mod near;
 mod rng;
@@ -13,7 +14,7 @@ use rng::Rng;
 
 use crate::file::{write, Certificate};
 use crate::kind::Kind;
-use crate::program::{answer, MAX_INPUT};
+use crate::program::{answer, Room};
 
 /// Attempts after which a case is taken whatever its answer.
 const MOST_ATTEMPTS: usize = 1_000;
@@ -132,7 +133,7 @@ fn kind_for(rng: &mut Rng, kind: u32, number: u32) -> u32 {
 fn attempts(wanted: u32, mut attempt: impl FnMut() -> Vec<u8>) -> Vec<u8> {
     let mut file = attempt();
     for _ in 1..MOST_ATTEMPTS {
-        if answer(&file).verdict.number() == wanted {
+        if answer(&file, Room::CHECK).verdict.number() == wanted {
             break;
         }
         file = attempt();
@@ -219,6 +220,6 @@ fn overfull(rng: &mut Rng) -> Vec<u8> {
     let mut file = write(&model::filling(rng));
     let number = rng.pick(&BYTE_REFUSALS);
     damage::bytes(rng, &mut file, number);
-    file.resize(MAX_INPUT + 1, 0);
+    file.resize(Room::CHECK.most_bytes() + 1, 0);
     file
 }

@@ -9,3 +9,4 @@ pub mod kind;
 pub mod program;
 pub mod rewrite;
 pub mod stream;
+pub mod whole;

@@ -1,16 +1,44 @@
-//! What the check program answers and prints for given input bytes.
+//! What is answered and printed for given input bytes, by the check program
+//! and where there is more room than it has.
 
 use std::fmt;
 
-use crate::check::{check, Refusal, Verdict, NONE};
-use crate::file::{self, Certificate, Entries, Header, Lent};
+use crate::check::{check, Refusal, Verdict, MAX_ACTIONS, MAX_BRANCHES, MAX_STATES, NONE};
+use crate::file::{self, Certificate, Entries, Header};
 use crate::kind::Kind;
 
-pub const ROOM_STATES: usize = 500;
-pub const ROOM_ACTIONS: usize = 1_000;
-pub const ROOM_BRANCHES: usize = 2_000;
-/// The most that the room can need; longer input is refused 33.
-pub const MAX_INPUT: usize = 30_534;
+/// The counts up to which a file can be read.
+#[derive(Clone, Copy, Debug, PartialEq, Eq)]
+pub struct Room {
+    pub states: usize,
+    pub actions: usize,
+    pub branches: usize,
+}
+
+impl Room {
+    /// The check program's.
+    pub const CHECK: Room = Room {
+        states: 500,
+        actions: 1_000,
+        branches: 2_000,
+    };
+    /// Room for all that the limits allow.
+    pub const WHOLE: Room = Room {
+        states: MAX_STATES,
+        actions: MAX_ACTIONS,
+        branches: MAX_BRANCHES,
+    };
+
+    /// The most that the room can need; longer input is refused 33.
+    pub const fn most_bytes(self) -> usize {
+        self.entries().file_bytes()
+    }
+
+    /// The entries of a file that fills the room.
+    const fn entries(self) -> Entries {
+        Entries::of_all_tables(self.states, self.actions, self.branches)
+    }
+}
 
 /// What comes out for one input; displayed as the program prints it.
 #[derive(Clone, Debug, PartialEq, Eq)]
@@ -22,138 +50,187 @@ pub struct Answer {
     pub choices: Vec<u32>,
 }
 
-/// Reads the input as a file and checks it.
-pub fn answer(input: &[u8]) -> Answer {
-    match read(input) {
-        Ok(certificate) => checked(&certificate),
-        Err(refusal) => Answer {
-            kind: None,
-            verdict: refusal.into(),
-            choices: Vec::new(),
-        },
-    }
+/// Reads the input as a file for which there is room, and checks it.
+pub fn answer(input: &[u8], room: Room) -> Answer {
+    Desk::new(room).answer(input)
 }
 
 /// Reads the input as a file for which there is room.
-pub fn read(input: &[u8]) -> Result<Certificate, Refusal> {
-    let refused = |number| Refusal { number, place: 0 };
-    if input.len() > MAX_INPUT {
-        return Err(refused(33));
-    }
-    let mut room = room();
-    let mut lent = Lent {
-        marks: &mut room.marks,
-        action_starts: &mut room.action_starts,
-        branch_starts: &mut room.branch_starts,
-        destinations: &mut room.destinations,
-        weights: &mut room.weights,
-        costs: &mut room.costs,
-        claims: &mut room.claims,
-        ranks: &mut room.ranks,
-    };
-    let header = file::read(input, &mut lent).map_err(refused)?;
-    Ok(cut(room, &header))
+pub fn read(input: &[u8], room: Room) -> Result<Certificate, Refusal> {
+    let mut desk = Desk::new(room);
+    let header = desk.read(input)?;
+    Ok(cut(desk.tables, &header))
 }
 
-/// Tables as long as there is room for.
-fn room() -> Certificate {
-    Certificate {
-        kind: 0,
-        d: 0,
-        c: 0,
-        marks: vec![0; ROOM_STATES],
-        action_starts: vec![0; ROOM_STATES + 1],
-        branch_starts: vec![0; ROOM_ACTIONS + 1],
-        destinations: vec![0; ROOM_BRANCHES],
-        weights: vec![0; ROOM_BRANCHES],
-        costs: vec![0; ROOM_STATES],
-        claims: vec![0; ROOM_STATES],
-        ranks: vec![0; ROOM_STATES],
+/// Tables as long as there is room for, lent for one file after the other.
+pub struct Desk {
+    room: Room,
+    tables: Certificate,
+}
+
+impl Desk {
+    pub fn new(room: Room) -> Desk {
+        let entries = room.entries();
+        let tables = Certificate {
+            kind: 0,
+            d: 0,
+            c: 0,
+            marks: vec![0; entries.marks],
+            action_starts: vec![0; entries.action_starts],
+            branch_starts: vec![0; entries.branch_starts],
+            destinations: vec![0; entries.destinations],
+            weights: vec![0; entries.weights],
+            costs: vec![0; entries.costs],
+            claims: vec![0; entries.claims],
+            ranks: vec![0; entries.ranks],
+        };
+        Desk { room, tables }
+    }
+
+    /// Reads the input as a file and checks it.
+    pub fn answer(&mut self, input: &[u8]) -> Answer {
+        match self.read(input) {
+            Ok(header) => self.checked(&header),
+            Err(refusal) => Answer {
+                kind: None,
+                verdict: refusal.into(),
+                choices: Vec::new(),
+            },
+        }
+    }
+
+    fn read(&mut self, input: &[u8]) -> Result<Header, Refusal> {
+        let refused = |number| Refusal { number, place: 0 };
+        if input.len() > self.room.most_bytes() {
+            return Err(refused(33));
+        }
+        file::read(input, &mut self.tables.lent()).map_err(refused)
+    }
+
+    /// Checks the file that was read. Beyond its counts the tables may hold
+    /// what an earlier file left there, so they are lent up to the counts.
+    fn checked(&self, header: &Header) -> Answer {
+        let kind = kind_of(header);
+        let entries = Entries::of(header, kind);
+        let tables = &self.tables;
+        let length = if kind.some { header.states } else { 0 };
+        let mut choices = vec![NONE; length];
+        let verdict = check(
+            header.kind,
+            header.d,
+            header.c,
+            &tables.marks[..entries.marks],
+            &tables.action_starts[..entries.action_starts],
+            &tables.branch_starts[..entries.branch_starts],
+            &tables.destinations[..entries.destinations],
+            &tables.weights[..entries.weights],
+            &tables.costs[..entries.costs],
+            &tables.claims[..entries.claims],
+            &tables.ranks[..entries.ranks],
+            &mut choices,
+        );
+        if verdict.number() != 0 {
+            choices.clear();
+        }
+        Answer {
+            kind: Some(header.kind),
+            verdict,
+            choices,
+        }
     }
 }
 
 /// The first entries of the tables, as many as the counts say.
-fn cut(mut room: Certificate, header: &Header) -> Certificate {
-    let kind = Kind::numbered(header.kind).expect("the reader refuses other kinds");
-    let entries = Entries::of(header, kind);
-    room.marks.truncate(entries.marks);
-    room.action_starts.truncate(entries.action_starts);
-    room.branch_starts.truncate(entries.branch_starts);
-    room.destinations.truncate(entries.destinations);
-    room.weights.truncate(entries.weights);
-    room.costs.truncate(entries.costs);
-    room.claims.truncate(entries.claims);
-    room.ranks.truncate(entries.ranks);
+fn cut(mut tables: Certificate, header: &Header) -> Certificate {
+    let entries = Entries::of(header, kind_of(header));
+    tables.marks.truncate(entries.marks);
+    tables.action_starts.truncate(entries.action_starts);
+    tables.branch_starts.truncate(entries.branch_starts);
+    tables.destinations.truncate(entries.destinations);
+    tables.weights.truncate(entries.weights);
+    tables.costs.truncate(entries.costs);
+    tables.claims.truncate(entries.claims);
+    tables.ranks.truncate(entries.ranks);
     Certificate {
         kind: header.kind,
         d: header.d,
         c: header.c,
-        ..room
+        ..tables
     }
 }
 
-fn checked(certificate: &Certificate) -> Answer {
-    let kind = Kind::numbered(certificate.kind).expect("the reader refuses other kinds");
-    let length = if kind.some {
-        certificate.marks.len()
-    } else {
-        0
-    };
-    let mut choices = vec![NONE; length];
-    let verdict = check(
-        certificate.kind,
-        certificate.d,
-        certificate.c,
-        &certificate.marks,
-        &certificate.action_starts,
-        &certificate.branch_starts,
-        &certificate.destinations,
-        &certificate.weights,
-        &certificate.costs,
-        &certificate.claims,
-        &certificate.ranks,
-        &mut choices,
-    );
-    if verdict.number() != 0 {
-        choices.clear();
-    }
-    Answer {
-        kind: Some(certificate.kind),
-        verdict,
-        choices,
+fn kind_of(header: &Header) -> Kind {
+    Kind::numbered(header.kind).expect("the reader refuses other kinds")
+}
+
+impl Answer {
+    /// Puts what is printed at the end of a text.
+    pub fn print(&self, text: &mut Vec<u8>) {
+        match self.verdict {
+            Verdict::Accepted { greatest_rank } => {
+                put_line(text, "accepted", &[Some(greatest_rank)]);
+            }
+            Verdict::Refused { number, place } => {
+                put_line(text, "refused", &[Some(number), Some(place)]);
+            }
+            Verdict::Violated {
+                number,
+                state,
+                action,
+            } => put_line(text, "violated", &[Some(number), Some(state), action]),
+        }
+        text.reserve(self.choices.len() * LONGEST_CHOICE_LINE);
+        for (state, &choice) in self.choices.iter().enumerate() {
+            put_number(text, state as u32);
+            text.push(b' ');
+            put_or_dash(text, (choice != NONE).then_some(choice));
+            text.push(b'\n');
+        }
     }
 }
 
 impl fmt::Display for Answer {
     fn fmt(&self, out: &mut fmt::Formatter) -> fmt::Result {
-        match self.verdict {
-            Verdict::Accepted { greatest_rank } => writeln!(out, "accepted {greatest_rank}"),
-            Verdict::Refused { number, place } => writeln!(out, "refused {number} {place}"),
-            Verdict::Violated {
-                number,
-                state,
-                action,
-            } => {
-                let action = OrDash(action);
-                writeln!(out, "violated {number} {state} {action}")
-            }
-        }?;
-        for (state, &choice) in self.choices.iter().enumerate() {
-            let choice = OrDash((choice != NONE).then_some(choice));
-            writeln!(out, "{state} {choice}")?;
-        }
-        Ok(())
+        let mut text = Vec::new();
+        self.print(&mut text);
+        out.write_str(std::str::from_utf8(&text).expect("letters, digits and signs"))
     }
 }
 
-/// Prints a number, or `-` for none.
-struct OrDash(Option<u32>);
+/// The digits of the greatest number.
+const MOST_DIGITS: usize = 10;
+const LONGEST_CHOICE_LINE: usize = MOST_DIGITS + 1 + MOST_DIGITS + 1;
 
-impl fmt::Display for OrDash {
-    fn fmt(&self, out: &mut fmt::Formatter) -> fmt::Result {
-        match self.0 {
-            Some(number) => write!(out, "{number}"),
-            None => write!(out, "-"),
+fn put_line(text: &mut Vec<u8>, word: &str, numbers: &[Option<u32>]) {
+    text.extend_from_slice(word.as_bytes());
+    for &number in numbers {
+        text.push(b' ');
+        put_or_dash(text, number);
+    }
+    text.push(b'\n');
+}
+
+/// Puts a number, or `-` for none.
+fn put_or_dash(text: &mut Vec<u8>, number: Option<u32>) {
+    match number {
+        Some(number) => put_number(text, number),
+        None => text.push(b'-'),
+    }
+}
+
+/// By hand, as the formatting of the standard library takes about twice as
+/// long over a whole choice list.
+fn put_number(text: &mut Vec<u8>, number: u32) {
+    let mut digits = [b'0'; MOST_DIGITS];
+    let mut first = MOST_DIGITS;
+    let mut rest = number;
+    loop {
+        first -= 1;
+        digits[first] += (rest % 10) as u8;
+        rest /= 10;
+        if rest == 0 {
+            break;
         }
     }
+    text.extend_from_slice(&digits[first..]);
 }

@@ -4,7 +4,7 @@ use std::fmt;
 
 use crate::check::Refusal;
 use crate::file::write_into;
-use crate::program::{read, MAX_INPUT};
+use crate::program::{read, Room};
 
 /// What comes of one file; displayed as a line without its end.
 #[derive(Clone, Copy, Debug, PartialEq, Eq)]
@@ -19,7 +19,7 @@ pub enum Rewritten {
 
 /// Reads the input as the check program does, and writes what was read.
 pub fn rewrite(input: &[u8]) -> Rewritten {
-    let mut buffer = [0; MAX_INPUT];
+    let mut buffer = [0; Room::CHECK.most_bytes()];
     match written(input, &mut buffer) {
         Ok(length) if buffer[..length] == *input => Rewritten::Same { length },
         Ok(length) => Rewritten::Differs { length },
@@ -28,7 +28,7 @@ pub fn rewrite(input: &[u8]) -> Rewritten {
 }
 
 fn written(input: &[u8], buffer: &mut [u8]) -> Result<usize, Refusal> {
-    let certificate = read(input)?;
+    let certificate = read(input, Room::CHECK)?;
     write_into(
         certificate.kind,
         certificate.d,

@@ -7,7 +7,7 @@ use crate::check::{
     MAX_WEIGHT_SCALE, NONE,
 };
 use crate::file::{set_length_field, Certificate, HEADER_BYTES};
-use crate::program::{ROOM_ACTIONS, ROOM_BRANCHES, ROOM_STATES};
+use crate::program::Room;
 
 const VERSION_PLACE: usize = 4;
 const KIND_PLACE: usize = 5;
@@ -177,9 +177,9 @@ fn damage_length(rng: &mut Rng, file: &mut Vec<u8>) {
 
 fn raise_count(rng: &mut Rng, file: &mut [u8]) {
     let (place, room, limit) = rng.pick(&[
-        (STATES_PLACE, ROOM_STATES, MAX_STATES),
-        (ACTIONS_PLACE, ROOM_ACTIONS, MAX_ACTIONS),
-        (BRANCHES_PLACE, ROOM_BRANCHES, MAX_BRANCHES),
+        (STATES_PLACE, Room::CHECK.states, MAX_STATES),
+        (ACTIONS_PLACE, Room::CHECK.actions, MAX_ACTIONS),
+        (BRANCHES_PLACE, Room::CHECK.branches, MAX_BRANCHES),
     ]);
     let greatest = rng.pick(&[room, limit]) as u32;
     put_count(file, place, above(rng, greatest));

@@ -6,7 +6,7 @@ use super::rng::Rng;
 use crate::check::{MAX_CLAIM_SCALE, MAX_COST, MAX_COST_CLAIM, MAX_WEIGHT_SCALE, NONE};
 use crate::file::Certificate;
 use crate::kind::Kind;
-use crate::program::{ROOM_ACTIONS, ROOM_BRANCHES, ROOM_STATES};
+use crate::program::Room;
 
 /// Rounds of iteration after which no fixed point is expected any more.
 const MOST_ROUNDS: usize = 500;
@@ -38,10 +38,11 @@ pub fn holding(rng: &mut Rng, kind: u32) -> Certificate {
 /// A model that fills the check program's room, with a claim that holds.
 pub fn filling(rng: &mut Rng) -> Certificate {
     let kind = 8;
-    let actions = ROOM_ACTIONS / ROOM_STATES;
-    let branches = ROOM_BRANCHES / ROOM_ACTIONS;
+    let room = Room::CHECK;
+    let actions = room.actions / room.states;
+    let branches = room.branches / room.actions;
     let size = Size {
-        states: ROOM_STATES,
+        states: room.states,
         actions_per_state: actions..actions + 1,
         branches_per_action: branches..branches + 1,
     };
@@ -417,7 +418,7 @@ mod tests {
         for index in 0..4_000 {
             let kind = index % 8 + 1;
             let made = holding(&mut Rng::new(7, u64::from(index)), kind);
-            let answer = answer(&write(&made));
+            let answer = answer(&write(&made), Room::CHECK);
             assert_eq!(answer.verdict.number(), 0, "{made:?}: {answer}");
         }
     }

@@ -1,8 +1,8 @@
 //! Reading files, and what the check program makes of them.
 
 use crate::models::{held, FILLING};
-use independent::file::{read, set_length_field, write, Certificate, Header, Lent};
-use independent::program::{answer, MAX_INPUT};
+use independent::file::{read, set_length_field, write, Certificate, Header};
+use independent::program::{answer, Room};
 
 const STATES_PLACE: usize = 14;
 const BRANCHES_PLACE: usize = 22;
@@ -31,18 +31,7 @@ impl Tables {
     }
 
     fn read(&mut self, bytes: &[u8]) -> Result<Header, u32> {
-        let tables = &mut self.0;
-        let mut lent = Lent {
-            marks: &mut tables.marks,
-            action_starts: &mut tables.action_starts,
-            branch_starts: &mut tables.branch_starts,
-            destinations: &mut tables.destinations,
-            weights: &mut tables.weights,
-            costs: &mut tables.costs,
-            claims: &mut tables.claims,
-            ranks: &mut tables.ranks,
-        };
-        read(bytes, &mut lent)
+        read(bytes, &mut self.0.lent())
     }
 }
 
@@ -50,11 +39,15 @@ fn put(file: &mut [u8], place: usize, word: u32) {
     file[place..place + 4].copy_from_slice(&word.to_be_bytes());
 }
 
+fn printed(file: &[u8]) -> String {
+    answer(file, Room::CHECK).to_string()
+}
+
 fn assert_refused(file: &[u8], number: u32) {
     let mut tables = Tables::new(500, 1_000, 2_000);
     assert_eq!(tables.read(file), Err(number));
     assert_eq!(tables, Tables::new(500, 1_000, 2_000));
-    assert_eq!(answer(file).to_string(), format!("refused {number} 0\n"));
+    assert_eq!(printed(file), format!("refused {number} 0\n"));
 }
 
 #[test]
@@ -171,14 +164,17 @@ fn no_states_pass_the_reader_and_no_actions_too() {
     file.extend([0; 8]);
     set_length_field(&mut file);
     assert!(Tables::new(0, 0, 0).read(&file).is_ok());
-    assert_eq!(answer(&file).to_string(), "refused 4 0\n");
+    assert_eq!(printed(&file), "refused 4 0\n");
     let mut claim = held(1);
     claim.branch_starts.truncate(1);
-    assert_eq!(answer(&write(&claim)).to_string(), "refused 5 3\n");
+    assert_eq!(printed(&write(&claim)), "refused 5 3\n");
 }
 
 #[test]
 fn long_input_is_refused_before_all_else() {
-    assert_eq!(answer(&[0; MAX_INPUT]).to_string(), "refused 31 0\n");
-    assert_eq!(answer(&[0; MAX_INPUT + 1]).to_string(), "refused 33 0\n");
+    for room in [Room::CHECK, Room::WHOLE] {
+        let printed = |length| answer(&vec![0; length], room).to_string();
+        assert_eq!(printed(room.most_bytes()), "refused 31 0\n");
+        assert_eq!(printed(room.most_bytes() + 1), "refused 33 0\n");
+    }
 }

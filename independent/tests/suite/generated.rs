@@ -3,10 +3,11 @@
 
 use std::collections::BTreeMap;
 
+use crate::models::hash;
 use independent::check::{Refusal, Verdict};
 use independent::generate::case;
 use independent::kind::Kind;
-use independent::program::{answer, MAX_INPUT};
+use independent::program::{answer, Room};
 use independent::rewrite::{rewrite, Rewritten};
 use independent::stream::{read_case, write_case};
 
@@ -19,7 +20,7 @@ fn assert_census(seed: u64) {
     let mut totals = BTreeMap::new();
     let mut by_kind = BTreeMap::new();
     for index in 0..CASES {
-        let answer = answer(&case(seed, index));
+        let answer = answer(&case(seed, index), Room::CHECK);
         let number = answer.verdict.number();
         *totals.entry(number).or_insert(0) += 1;
         *by_kind.entry((number, answer.kind)).or_insert(0) += 1;
@@ -51,7 +52,7 @@ fn every_answer_occurs_often_enough() {
 #[test]
 fn what_is_not_refused_is_written_anew() {
     for file in (0..CASES).map(|index| case(3, index)) {
-        let expected = match answer(&file).verdict {
+        let expected = match answer(&file, Room::CHECK).verdict {
             Verdict::Refused { number, place } => Rewritten::Refused(Refusal { number, place }),
             _ => Rewritten::Same { length: file.len() },
         };
@@ -68,22 +69,19 @@ fn the_size_stays_small() {
 #[test]
 fn the_room_is_filled_and_overfilled() {
     let full = case(1, 999);
-    assert_eq!(full.len(), MAX_INPUT);
+    assert_eq!(full.len(), Room::CHECK.most_bytes());
     assert!(matches!(
-        answer(&full).verdict,
+        answer(&full, Room::CHECK).verdict,
         Verdict::Accepted { greatest_rank } if greatest_rank > 0
     ));
-    assert_eq!(case(1, 1_999).len(), MAX_INPUT + 1);
+    assert_eq!(case(1, 1_999).len(), Room::CHECK.most_bytes() + 1);
 }
 
 #[test]
 fn the_same_seed_gives_the_same_cases() {
-    // FNV-1a over the first cases of seed 1, as found when this was written.
+    // The first cases of seed 1, as found when this was written.
     let bytes = (0..500).flat_map(|index| case(1, index));
-    let hash = bytes.fold(0xcbf2_9ce4_8422_2325, |hash: u64, byte| {
-        (hash ^ u64::from(byte)).wrapping_mul(0x0100_0000_01b3)
-    });
-    assert_eq!(hash, 0xeb57_a3ea_b0cd_fb34);
+    assert_eq!(hash(bytes), 0xeb57_a3ea_b0cd_fb34);
 }
 
 #[test]

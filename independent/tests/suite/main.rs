@@ -1,7 +1,9 @@
-//! The tests of the library.
+//! The tests of the library and of the commands.
 
+mod commands;
 mod files;
 mod generated;
+mod limits;
 mod models;
 mod refusals;
 mod worked_cases;

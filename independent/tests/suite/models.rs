@@ -1,4 +1,4 @@
-//! The small models of document 01.
+//! The small models of document 01, and what the tests share.
 
 use independent::check::{check, Refusal, Verdict, NONE};
 use independent::file::{write_into, Certificate};
@@ -98,4 +98,11 @@ pub fn written(claim: &Certificate, buffer: &mut [u8]) -> Result<usize, Refusal>
         &claim.ranks,
         buffer,
     )
+}
+
+/// FNV-1a.
+pub fn hash(bytes: impl Iterator<Item = u8>) -> u64 {
+    bytes.fold(0xcbf2_9ce4_8422_2325, |hash, byte| {
+        (hash ^ u64::from(byte)).wrapping_mul(0x0100_0000_01b3)
+    })
 }

@@ -3,13 +3,13 @@
 use crate::models::{checked, held, model_a, model_b, UNTOUCHED};
 use independent::check::NONE;
 use independent::file::{write, Certificate};
-use independent::program::answer;
+use independent::program::{answer, Room};
 
 const UNRANKED: &[u32] = &[];
 const SINK: &[u32] = &[1, NONE, 0];
 
 fn printed(claim: &Certificate) -> String {
-    answer(&write(claim)).to_string()
+    answer(&write(claim), Room::CHECK).to_string()
 }
 
 #[test]

@@ -3,7 +3,7 @@
 use crate::models::{checked_with_choices, held, model_a, written, FILLING};
 use independent::check::{Refusal, Verdict, NONE};
 use independent::file::write;
-use independent::program::{answer, MAX_INPUT};
+use independent::program::{answer, Room};
 use independent::rewrite::{rewrite, Rewritten};
 
 #[test]
@@ -70,7 +70,7 @@ fn the_choice_list_plays_no_role() {
 fn a_violated_claim_is_written() {
     let claim = model_a(4, [4, 8, 8], &[1, NONE, 0]);
     let file = write(&claim);
-    assert_eq!(answer(&file).verdict.number(), 23);
+    assert_eq!(answer(&file, Room::CHECK).verdict.number(), 23);
     assert_eq!(rewrite(&file), Rewritten::Same { length: 149 });
 }
 
@@ -80,6 +80,7 @@ fn what_is_printed_of_a_file() {
     assert_eq!(rewrite(&write(&claim)).to_string(), "same 137");
     claim.weights[2] = 0;
     assert_eq!(rewrite(&write(&claim)).to_string(), "refused 10 2");
-    assert_eq!(rewrite(&[0; MAX_INPUT]).to_string(), "refused 31 0");
-    assert_eq!(rewrite(&[0; MAX_INPUT + 1]).to_string(), "refused 33 0");
+    let most = Room::CHECK.most_bytes();
+    assert_eq!(rewrite(&vec![0; most]).to_string(), "refused 31 0");
+    assert_eq!(rewrite(&vec![0; most + 1]).to_string(), "refused 33 0");
 }
