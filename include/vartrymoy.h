@@ -1,5 +1,6 @@
-/* Vartrymoy: judges claims about finite Markov decision processes, and reads
- * and writes their files.
+/* Vartrymoy: judges claims about finite Markov decision processes, reads and
+ * writes their files, and answers a file whole, from its bytes to the text that
+ * is printed.
  *
  * Each table is a pointer and its number of entries. A pointer must not be
  * null, also for a table with no entries, and the entries behind it must be
@@ -23,6 +24,16 @@ extern "C" {
 #define VARTRYMOY_ANSWER_LEN 4
 #define VARTRYMOY_HEADER_LEN 6
 #define VARTRYMOY_WRITTEN_LEN 2
+
+/* The most states, actions and branches of a model, and the most bytes of a
+ * file. */
+#define VARTRYMOY_MOST_STATES 20000
+#define VARTRYMOY_MOST_ACTIONS 100000
+#define VARTRYMOY_MOST_BRANCHES 1000000
+#define VARTRYMOY_MOST_BYTES 8820034
+
+/* The room for what may be printed of so many states. */
+#define VARTRYMOY_TEXT_LEN(states) (64 + 32 * (size_t)(states))
 
 /* Judges the claim that the tables make. Returns 0 for accepted, 21 to 24 for
  * a violated condition, 1 to 14 for tables that are refused.
@@ -79,7 +90,7 @@ uint32_t vartrymoy_read(
  *
  * Written:
  * buffer   only when 0 comes back: the file, at the front. The rest stays. No
- *          file is longer than 8,820,034 bytes.
+ *          file is longer than VARTRYMOY_MOST_BYTES.
  * result   the number returned; then the length of the file (0) or the place
  *          of the refusal. With a length that is not 2 nothing at all is
  *          written.
@@ -97,6 +108,39 @@ uint32_t vartrymoy_write(
     const uint64_t *claims, size_t claims_len,
     const uint32_t *ranks, size_t ranks_len,
     uint8_t *buffer, size_t buffer_len,
+    uint64_t *result, size_t result_len);
+
+/* Answers a certificate file: reads it, judges its claim and prints what comes
+ * of it. Returns the number that is printed: 0 for accepted, 21 to 24 for a
+ * violated condition, 31 to 34 for a file and 1 to 14 for tables that are
+ * refused. A file over VARTRYMOY_MOST_BYTES is 33 before all else.
+ *
+ * Written:
+ * text     what is printed, at the front: "accepted R", "violated NUMBER STATE
+ *          ACTION" or "refused NUMBER PLACE" and a newline, with "-" for none;
+ *          after an accepted claim of kind 3, 4, 6 or 8 a line for each state.
+ *          No zero byte ends it, and the rest stays.
+ * result   the number returned; then how many bytes of text were printed.
+ * choices  as vartrymoy_check writes them, in the first n entries.
+ * tables   as vartrymoy_read fills them; they are the room that the file is
+ *          read into.
+ *
+ * Where choices is shorter than marks, text shorter than VARTRYMOY_TEXT_LEN of
+ * the entries of marks, or the length of result is not 2, the call returns the
+ * number of the refusal over the file or its tables, and 5 if there is none;
+ * then text, result and choices are not written. */
+uint32_t vartrymoy_answer(
+    const uint8_t *file, size_t file_len,
+    uint8_t *marks, size_t marks_len,
+    uint32_t *action_starts, size_t action_starts_len,
+    uint32_t *branch_starts, size_t branch_starts_len,
+    uint32_t *destinations, size_t destinations_len,
+    uint32_t *weights, size_t weights_len,
+    uint32_t *costs, size_t costs_len,
+    uint64_t *claims, size_t claims_len,
+    uint32_t *ranks, size_t ranks_len,
+    uint32_t *choices, size_t choices_len,
+    uint8_t *text, size_t text_len,
     uint64_t *result, size_t result_len);
 
 #ifdef __cplusplus

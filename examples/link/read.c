@@ -1,11 +1,16 @@
-/* Reads a certificate file, judges its claim and writes the file anew: read CERTIFICATE */
+/* Reads a certificate file, judges its claim, writes the file anew and answers it whole: read CERTIFICATE */
 #include <stdio.h>
 #include <string.h>
 #include "vartrymoy.h"
 
-enum { STATES = 20000, ACTIONS = 100000, BRANCHES = 1000000, BYTES = 9000000 };
+enum {
+    STATES = VARTRYMOY_MOST_STATES,
+    ACTIONS = VARTRYMOY_MOST_ACTIONS,
+    BRANCHES = VARTRYMOY_MOST_BRANCHES,
+    BYTES = VARTRYMOY_MOST_BYTES + 1
+};
 
-static uint8_t file[BYTES], written[BYTES], marks[STATES];
+static uint8_t file[BYTES], written[BYTES], marks[STATES], text[VARTRYMOY_TEXT_LEN(STATES)];
 static uint32_t action_starts[STATES + 1], branch_starts[ACTIONS + 1];
 static uint32_t destinations[BRANCHES], weights[BRANCHES];
 static uint32_t costs[STATES], ranks[STATES], choices[STATES];
@@ -18,6 +23,16 @@ static void print(const char *name, const uint32_t *numbers, size_t count)
     for (i = 0; i < count; i++)
         printf(" %lu", (unsigned long)numbers[i]);
     printf("\n");
+}
+
+static void answer_whole(size_t length)
+{
+    uint64_t result[VARTRYMOY_WRITTEN_LEN];
+    vartrymoy_answer(file, length, marks, STATES, action_starts, STATES + 1,
+        branch_starts, ACTIONS + 1, destinations, BRANCHES, weights, BRANCHES,
+        costs, STATES, claims, STATES, ranks, STATES, choices, STATES,
+        text, sizeof text, result, VARTRYMOY_WRITTEN_LEN);
+    fwrite(text, 1, (size_t)result[1], stdout);
 }
 
 int main(int argc, char **argv)
@@ -39,8 +54,10 @@ int main(int argc, char **argv)
         destinations, BRANCHES, weights, BRANCHES, costs, STATES,
         claims, STATES, ranks, STATES);
     print("read", &number, 1);
-    if (number != 0)
+    if (number != 0) {
+        answer_whole(length);
         return 0;
+    }
 
     kind = header[0], n = header[3], m = header[4], b = header[5];
     costs_len = kind >= 5 ? n : 0;
@@ -61,5 +78,6 @@ int main(int argc, char **argv)
     printf("written %lu %lu\n", (unsigned long)result[0], (unsigned long)result[1]);
     if (number == 0)
         puts(result[1] == length && memcmp(written, file, length) == 0 ? "same bytes" : "other bytes");
+    answer_whole(length);
     return 0;
 }

@@ -1,4 +1,4 @@
-"""Reads a certificate file, judges its claim and writes the file anew: read.py LIBRARY CERTIFICATE"""
+"""Reads a certificate file, judges its claim, writes the file anew and answers it whole: read.py LIBRARY CERTIFICATE"""
 import ctypes
 import sys
 
@@ -11,11 +11,16 @@ def lent(tables, counts):
     return [x for table, count in zip(tables, counts) for x in (table, ctypes.c_size_t(count))]
 
 
+def room():
+    """Tables 1 to 8 at document 01's limits."""
+    counts = [(U8, STATES), (U32, STATES + 1), (U32, ACTIONS + 1), (U32, BRANCHES),
+              (U32, BRANCHES), (U32, STATES), (U64, STATES), (U32, STATES)]
+    return [(entry * count)() for entry, count in counts]
+
+
 def read(library, file):
     """The number that comes back, the header, and tables 1 to 8."""
-    room = [(U8, STATES), (U32, STATES + 1), (U32, ACTIONS + 1), (U32, BRANCHES),
-            (U32, BRANCHES), (U32, STATES), (U64, STATES), (U32, STATES)]
-    tables = [(entry * count)() for entry, count in room]
+    tables = room()
     header = (U32 * 6)()
     given = (U8 * len(file)).from_buffer_copy(file)
     everything = [given, header] + tables
@@ -49,16 +54,17 @@ def write(library, header, tables, length):
     return result, bytes(buffer)
 
 
-def main():
-    library = ctypes.CDLL(sys.argv[1])
-    for function in (library.vartrymoy_read, library.vartrymoy_check, library.vartrymoy_write):
-        function.restype = U32
-    with open(sys.argv[2], "rb") as opened:
-        file = opened.read()
-    number, header, tables = read(library, file)
-    print("read", number)
-    if number != 0:
-        return
+def answer_whole(library, file):
+    """What is printed for a file."""
+    given = (U8 * len(file)).from_buffer_copy(file)
+    choices, text, result = (U32 * STATES)(), (U8 * (64 + 32 * STATES))(), (U64 * 2)()
+    everything = [given] + room() + [choices, text, result]
+    library.vartrymoy_answer(*lent(everything, map(len, everything)))
+    return bytes(text[:result[1]]).decode()
+
+
+def judge(library, file, header, tables):
+    """Prints the answer in numbers, and what came of writing the file anew."""
     answer, choices = check(library, header, tables)
     print("answer", *answer)
     if answer[0] == 0:
@@ -67,6 +73,19 @@ def main():
     print("written", *result)
     if result[0] == 0:
         print("same bytes" if result[1] == len(file) and written == file else "other bytes")
+
+
+def main():
+    library = ctypes.CDLL(sys.argv[1])
+    for name in ("read", "check", "write", "answer"):
+        getattr(library, "vartrymoy_" + name).restype = U32
+    with open(sys.argv[2], "rb") as opened:
+        file = opened.read()
+    number, header, tables = read(library, file)
+    print("read", number)
+    if number == 0:
+        judge(library, file, header, tables)
+    print(answer_whole(library, file), end="")
 
 
 main()

@@ -1,4 +1,6 @@
 // What is printed for a file that is read into lent tables, and what the check program prints.
+mod refusal;
+
 ghost use mathlib.Core.Path.{_≡_};
 ghost use mathlib.Core.Bool.{_&&_};
 ghost use Prim.Native.Nat.{_+_, _*_, _≤_};
@@ -6,9 +8,8 @@ ghost use lib.Dec.{leb};
 ghost use lib.ListN.{length};
 ghost use Rattle.certfile.specs.Contents.{modelCut, claimCut};
 ghost use Rattle.certfile.specs.Tables.{tables, lent};
-ghost use Rattle.model.specs.Checked.{refusalOf};
 ghost use Rattle.program.specs.Printed.{openedOf, chosenIn, refusedText, printedOf};
-ghost use Rattle.program.specs.Shows.{Shows, Roomy, Long, Enough, OpenedInto, Judged, Unprinted, Answered};
+ghost use Rattle.program.specs.Shows.{Shows, Long, Enough, OpenedInto, Judged, Unprinted, Answered};
 use certfile::FileRefusal;
 use certfile::Header;
 use certfile::Outcome;
@@ -167,52 +168,6 @@ fn judged(
     }
 }
 
-// The refusal over the first entries of tables that hold a file, the choice list aside, or a pass.
-fn refusal(
-    h: Header,
-    marks: &[u8],
-    action_starts: &[u32],
-    branch_starts: &[u32],
-    destinations: &[u32],
-    weights: &[u32],
-    costs: &[u32],
-    claims: &[u64],
-    ranks: &[u32],
-) -> Verdict
-    requires { let t = tables (now marks) (now «action_starts») (now «branch_starts») (now destinations)
-        (now weights) (now costs) (now claims) (now ranks) in
-        ⌜ Roomy h (lent t) ⌝ }
-    ensures { λ r.
-        let t = tables (now (marks .entry)) (now («action_starts» .entry)) (now («branch_starts» .entry))
-        (now (destinations .entry)) (now (weights .entry)) (now (costs .entry)) (now (claims .entry)) (now (ranks .entry)) in
-        ⌜ r ≡ refusalOf (h .kind) (modelCut h t) (claimCut h t) (chosenIn h) ⌝ }
-{
-    let count = certfile::counts_of(h);
-    let n = count.marks;
-    let starts = count.action_starts;
-    let rows = count.branch_starts;
-    let to = count.destinations;
-    let by = count.weights;
-    let costly = count.costs;
-    let claimed = count.claims;
-    let ranked = count.ranks;
-    let chosen = model::choice_count(h.kind, n);
-    checker::refuse(
-        h.kind,
-        h.d,
-        h.c,
-        &marks[..n],
-        &action_starts[..starts],
-        &branch_starts[..rows],
-        &destinations[..to],
-        &weights[..by],
-        &costs[..costly],
-        &claims[..claimed],
-        &ranks[..ranked],
-        chosen,
-    )
-}
-
 // Whether a choice list and a text of these lengths are long enough for so many states.
 pub fn long_enough(states: usize, choices: usize, text: usize) -> bool
     ensures { λ r. ⌜ r ≡ (leb states choices && leb (64 + 32 * states) text) ⌝ }
@@ -260,7 +215,7 @@ pub fn unprinted(
         ranks,
     );
     match outcome {
-        Outcome::Read(h) => refusal(
+        Outcome::Read(h) => refusal::refusal(
                 h,
                 marks,
                 action_starts,

@@ -1,9 +1,9 @@
--- `program::refusal` meets its contract: each table is cut as the header counts it. Assumes nothing.
+-- `program::refusal::refusal` meets its contract: each table is cut as the header counts it. Assumes nothing.
 use Rattle.certfile.specs.Tables.{Tables, tables}
 use Rattle.program.proofs.Cut.{Cuts, cuts, refused-cut}
 use borrow.Author.Needs.{needs}
-use Rattle.program.proofs.refusal.Statement.{statement}
-use Rattle.program.proofs.refusal.Tie as tie
+use Rattle.program.proofs.refusal.refusal.Statement.{statement}
+use Rattle.program.proofs.refusal.refusal.Tie as tie
 
 abbrev lists : tie.Start → Tables
 lists c =

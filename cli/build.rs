@@ -1,0 +1,7 @@
+//! Links the proved library.
+
+include!("../native/link.rs");
+
+fn main() {
+    link_library();
+}
