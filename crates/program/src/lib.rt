@@ -1,10 +1,7 @@
 // What is printed for a file that is read into lent tables, and what the check program prints.
 mod refusal;
 
-ghost use mathlib.Core.Path.{_≡_};
-ghost use mathlib.Core.Bool.{_&&_};
-ghost use Prim.Native.Nat.{_+_, _*_, _≤_};
-ghost use lib.Dec.{leb};
+ghost use Prim.Native.Nat.{_≤_};
 ghost use lib.ListN.{length};
 ghost use Rattle.certfile.specs.Contents.{modelCut, claimCut};
 ghost use Rattle.certfile.specs.Tables.{tables, lent};
@@ -166,19 +163,6 @@ fn judged(
         number: verdict.number(),
         bytes,
     }
-}
-
-// Whether a choice list and a text of these lengths are long enough for so many states.
-pub fn long_enough(states: usize, choices: usize, text: usize) -> bool
-    ensures { λ r. ⌜ r ≡ (leb states choices && leb (64 + 32 * states) text) ⌝ }
-{
-    if choices < states {
-        return false;
-    }
-    if text < Longest::VERDICT {
-        return false;
-    }
-    states <= (text - Longest::VERDICT) / Longest::CHOICE
 }
 
 // The number where nothing can be printed: that of the refusal over the file or its tables, else 5.

@@ -2,6 +2,7 @@
 ghost use mathlib.Core.Path.{_≡_};
 ghost use mathlib.Core.List.{_++_};
 ghost use Prim.Native.Nat.{_+_, _*_, _≤_};
+ghost use lib.Dec.{leb};
 ghost use lib.ListN.{length, drop};
 ghost use Rattle.report.specs.Text.{decimal, dashed, field, headOf, lineOf, linesOf, textOf};
 ghost use Rattle.walk.specs.Put.{Put};
@@ -131,4 +132,14 @@ pub fn print(verdict: Verdict, choices: &[u32], text: &mut [u8]) -> usize
         return lines(text, at, choices);
     }
     at
+}
+
+// Whether a text so long has room for what may be printed of so many states.
+pub fn has_room(states: usize, text: usize) -> bool
+    ensures { λ r. ⌜ r ≡ leb (64 + 32 * states) text ⌝ }
+{
+    if text < Longest::VERDICT {
+        return false;
+    }
+    states <= (text - Longest::VERDICT) / Longest::CHOICE
 }

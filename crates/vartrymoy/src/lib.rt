@@ -304,7 +304,10 @@ fn lists_right(states: usize, choices: usize, text: usize, result: usize) -> boo
     if result != ResultList::COUNT {
         return false;
     }
-    program::long_enough(states, choices, text)
+    if choices < states {
+        return false;
+    }
+    report::has_room(states, text)
 }
 
 // Reads a file into the lent tables, checks it, puts what is printed at the beginning of the text, and answers its number.
