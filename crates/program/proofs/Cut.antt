@@ -99,7 +99,8 @@ module _ (chosen : ℕ) (choices after : List ℕ) (few : chosen ≤ length choi
 
   -- what is printed is what the definition says
   module _ (h : Header) (count : Lengths) (t : Tables) (q : count ≡ countsOf h) (f : chosen ≡ choiceCount (h .kind) (count .marks)) where
-    module _ (answer : Answer) (w : Checked (h .kind) (modelTaken h count t) (claimTaken h count t) (take chosen choices) answer after) (r : Told) (text text′ : List ℕ) where
+    module _ (answer : Answer) (w : Checked (h .kind) (modelTaken h count t) (claimTaken h count t) (take chosen choices) answer after) (r : Told)
+        (text text′ : List ℕ) where
       abbrev list′ : List ℕ
       list′ = after ++ drop chosen choices
 
@@ -128,10 +129,12 @@ module _ (chosen : ℕ) (choices after : List ℕ) (few : chosen ≤ length choi
       printed told long shown =
           subst (λ (x : Model). Judged (h .kind) x (claimCut h t) (chosenIn h) choices text r list′ text′) (model-cut h count t q)
           (subst (λ (x : Claim). Judged (h .kind) (modelTaken h count t) x (chosenIn h) choices text r list′ text′) (claim-cut h count t q)
-          (subst (λ (k : ℕ). Judged (h .kind) (modelTaken h count t) (claimTaken h count t) k choices text r list′ text′) (chosen-counted h count chosen q f) (taken told long shown)))
+          (subst (λ (k : ℕ). Judged (h .kind) (modelTaken h count t) (claimTaken h count t) k choices text r list′ text′)
+          (chosen-counted h count chosen q f) (taken told long shown)))
 
 -- the refusal over tables that are cut, the choice list aside
-pub refused-cut : (h : Header) (count : Lengths) (t : Tables) (chosen : ℕ) → count ≡ countsOf h → chosen ≡ choiceCount (h .kind) (count .marks) → (v : Verdict)
+pub refused-cut : (h : Header) (count : Lengths) (t : Tables) (chosen : ℕ) → count ≡ countsOf h → chosen ≡ choiceCount (h .kind) (count .marks) →
+    (v : Verdict)
     → v ≡ refusalOf (h .kind) (modelTaken h count t) (claimTaken h count t) chosen
     → v ≡ refusalOf (h .kind) (modelCut h t) (claimCut h t) (chosenIn h)
 refused-cut h count t chosen q f v e = e

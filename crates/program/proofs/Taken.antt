@@ -100,7 +100,8 @@ module _ (most : ℕ) (o : Outcome) (file : List ℕ) (t u : Tables) (w : Opened
         ∙ ap (λ (x : Claim). refusalOf (h .kind) (modelIn h file) x (chosenIn h)) (claim-read o file t u read-into h e)
         ∙ ap (λ (x : Outcome). refusalIn x file) opened-read
 
-    pub number-read : (v v′ : Verdict) (r : ℕ) → v ≡ refusalOf (h .kind) (modelCut h u) (claimCut h u) (chosenIn h) → v′ ≡ then v (require false 5 0) → r ≡ number v′
+    pub number-read : (v v′ : Verdict) (r : ℕ) → v ≡ refusalOf (h .kind) (modelCut h u) (claimCut h u) (chosenIn h) → v′ ≡ then v (require false 5 0)
+        → r ≡ number v′
         → Unprinted opened file t r u
     unfolding require
     number-read v v′ r p q z = record { number = z ∙ ap number q ∙ ap (λ (x : Verdict). number (then x (Refuses 5 0))) (p ∙ refusal-is); tables = filled }
@@ -128,7 +129,8 @@ module _ (most : ℕ) (o : Outcome) (file : List ℕ) (t u : Tables) (w : Opened
             shows = p .shows;
             tables = w .tables ∙ ap (λ (x : Outcome). filledBy x file t) e;
             choices = p .choices;
-            sound = λ g R same e. subst (λ (x : Header). Holds (kindOf (x .kind)) (modelIn x file) (claimIn x file) R (take (chosenIn x) list′)) (headers same) (p .sound R e);
+            sound = λ g R same e. subst (λ (x : Header). Holds (kindOf (x .kind)) (modelIn x file) (claimIn x file) R (take (chosenIn x) list′))
+                (headers same) (p .sound R e);
           }
         where
           headers : {x y : Header} → Read x ≡ Read y → x ≡ y
@@ -154,7 +156,14 @@ module _ (most : ℕ) (o : Outcome) (file : List ℕ) (t u : Tables) (w : Opened
     printed-refused list text r text′ n s = subst (λ (x : Outcome). Answered x file t list text r u list text′) opened-refused whole
       where
         whole : Answered (Refused k p) file t list text r u list text′
-        whole = record { number = n; shows = s; tables = w .tables ∙ ap (λ (x : Outcome). filledBy x file t) e; choices = refl; sound = λ h R same q. let z : _≡_ {A = ℕ} 0 1 = cc in absurd (omega arith) }
+        whole = record {
+          number = n;
+          shows = s;
+          tables = w .tables ∙ ap (λ (x : Outcome). filledBy x file t) e;
+          choices = refl;
+          sound = λ h R same q.
+              let z : _≡_ {A = ℕ} 0 1 = cc in absurd (omega arith);
+        }
 
 -- what is shown lies within the text
 pub shown-within : {bytes : List ℕ} {r : ℕ} {before after : List ℕ} → Shows bytes r before after → r ≤ length after

@@ -10,39 +10,60 @@ use Rattle.program.proofs.answer_within.Tie as tie
 abbrev before : tie.Start → Tables
 before c =
     let a = c .args in
-    tables (a .marks .now) (a .action-starts .now) (a .branch-starts .now) (a .destinations .now) (a .weights .now) (a .costs .now) (a .claims .now) (a .ranks .now)
+    tables (a .marks .now) (a .action-starts .now) (a .branch-starts .now) (a .destinations .now) (a .weights .now) (a .costs .now) (a .claims .now)
+    (a .ranks .now)
 
 abbrev after : tie.After-load → Tables
 after c =
-    tables (c .load .last .1 .1 .0) (c .load .last .1 .1 .1 .0) (c .load .last .1 .1 .1 .1 .0) (c .load .last .1 .1 .1 .1 .1 .0) (c .load .last .1 .1 .1 .1 .1 .1 .0) (c .load .last .1 .1 .1 .1 .1 .1 .1 .0) (c .load .last .1 .1 .1 .1 .1 .1 .1 .1 .0) (c .load .last .1 .1 .1 .1 .1 .1 .1 .1 .1 .0)
+    tables (c .load .last .1 .1 .0) (c .load .last .1 .1 .1 .0) (c .load .last .1 .1 .1 .1 .0) (c .load .last .1 .1 .1 .1 .1 .0)
+    (c .load .last .1 .1 .1 .1 .1 .1 .0) (c .load .last .1 .1 .1 .1 .1 .1 .1 .0) (c .load .last .1 .1 .1 .1 .1 .1 .1 .1 .0)
+    (c .load .last .1 .1 .1 .1 .1 .1 .1 .1 .1 .0)
 
-kept : (c : tie.After-load) → lent (after c) ≡ lent (before (c .before .before .before .before .before .before .before .before .before .before .before .before .before .before .before .before .before .before .before .before))
+kept : (c : tie.After-load) → lent (after c) ≡ lent
+    (before (c .before .before .before .before .before .before .before .before .before .before .before .before .before .before .before .before .before
+    .before .before .before))
 kept c =
     let k = c .load .kept in
-    lengths-kept (before (c .before .before .before .before .before .before .before .before .before .before .before .before .before .before .before .before .before .before .before .before)) (after c) (omega (arith, k)) (omega (arith, k)) (omega (arith, k)) (omega (arith, k)) (omega (arith, k)) (omega (arith, k)) (omega (arith, k)) (omega (arith, k))
+    lengths-kept (before (c .before .before .before .before .before .before .before .before .before .before .before .before .before .before .before
+    .before .before .before .before .before)) (after c) (omega (arith, k)) (omega (arith, k)) (omega (arith, k)) (omega (arith, k))
+    (omega (arith, k)) (omega (arith, k)) (omega (arith, k)) (omega (arith, k))
 
 judged-requires : tie.Need-judged-requires
 judged-requires c κs =
     let known = c .before .before .before .before .before .before .before .before .before .before .before in
-    let loaded = known .before .before .before .before .before .before .before .before .before .before .before .before .before .before .before .before .before .before in
-    enough _ _ _ _ (after loaded) (loaded .load .ensures) _ (known .outcome .given .1) _ _ (kept loaded) (loaded .before .before .before .before .before .before .before .before .before .before .before .before .before .before .before .before .before .before .before .before .pre)
+    let loaded = known .before .before .before .before .before .before .before .before .before .before .before .before .before .before .before .before
+    .before .before in
+    enough _ _ _ _ (after loaded) (loaded .load .ensures) _ (known .outcome .given .1) _ _ (kept loaded)
+    (loaded .before .before .before .before .before .before .before .before .before .before .before .before .before .before .before .before
+    .before .before .before .before .pre)
 
 same-length : tie.Need-same-length
-same-length c = omega (arith, c .before .before .before .before .before .before .before .before .before .before .before .before .before .before .before .before .before .before .before .before .before .before .before .before .before .before .before .before .before .before .before .before .before .before .load .kept)
+same-length c = omega (
+  arith,
+  c .before .before .before .before .before .before .before .before .before .before .before .before .before .before
+      .before .before .before .before .before .before .before .before .before .before .before .before .before .before .before .before .before .before
+      .before .before .load .kept,
+)
 
 same-length-2 : tie.Need-same-length-2
-same-length-2 c = omega (arith, c .before .before .before .before .before .before .before .before .before .before .before .before .before .before .before .before .before .before .before .before .before .before .before .before .before .before .before .before .before .before .before .before .before .before .load .kept)
+same-length-2 c = omega (
+  arith,
+  c .before .before .before .before .before .before .before .before .before .before .before .before .before .before .before .before .before .before
+      .before .before .before .before .before .before .before .before .before .before .before .before .before .before .before .before .load .kept,
+)
 
 returns : tie.Need-returns
 returns c =
     let known = c .before .before .before .before .before .before .before .before .before .before .before .before .before .before .before .before in
-    let loaded = known .before .before .before .before .before .before .before .before .before .before .before .before .before .before .before .before .before .before in
+    let loaded = known .before .before .before .before .before .before .before .before .before .before .before .before .before .before .before .before
+    .before .before in
     printed-read _ _ _ _ (after loaded) (loaded .load .ensures) _ (known .outcome .given .1) _ _ _ _ _ (c .before .before .before .before .judged .ensures)
 
 returns-2 : tie.Need-returns-2
 returns-2 c =
     let known = c .before .before .before .before .before in
-    let loaded = known .before .before .before .before .before .before .before .before .before .before .before .before .before .before .before .before .before .before in
+    let loaded = known .before .before .before .before .before .before .before .before .before .before .before .before .before .before .before .before
+    .before .before in
     printed-refused _ _ _ _ (after loaded) (loaded .load .ensures) _ _ (known .outcome2 .given .1) _ _ _ _ refl (c .before .before .refused .ensures)
 
 pub answer-within-spec : {M : Type 1} → statement M

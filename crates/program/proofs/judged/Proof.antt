@@ -14,21 +14,29 @@ use Rattle.program.proofs.judged.Tie as tie
 abbrev lists : tie.Start → Tables
 lists c =
     let a = c .args in
-    tables (a .marks .now) (a .action-starts .now) (a .branch-starts .now) (a .destinations .now) (a .weights .now) (a .costs .now) (a .claims .now) (a .ranks .now)
+    tables (a .marks .now) (a .action-starts .now) (a .branch-starts .now) (a .destinations .now) (a .weights .now) (a .costs .now) (a .claims .now)
+    (a .ranks .now)
 
-all : (c : tie.After-choice-count) → Cuts (c .before .counts-of .result) (lists (c .before .before .before .before .before .before .before .before .before .before .before .before))
-all c = cuts _ _ _ (c .before .counts-of .ensures .0) (c .before .before .before .before .before .before .before .before .before .before .before .before .pre .tables)
+all : (c : tie.After-choice-count) → Cuts (c .before .counts-of .result)
+    (lists (c .before .before .before .before .before .before .before .before .before .before .before .before))
+all c = cuts _ _ _ (c .before .counts-of .ensures .0)
+    (c .before .before .before .before .before .before .before .before .before .before .before .before .pre .tables)
 
-few-states : (c : tie.After-choice-count) → c .choice-count .result ≤ c .before .before .before .before .before .before .before .before .before .before .before .before .args .h .n
+few-states : (c : tie.After-choice-count)
+    → c .choice-count .result ≤ c .before .before .before .before .before .before .before .before .before .before .before .before .args .h .n
 few-states c = chosen-few _ _ _ (c .before .counts-of .ensures .0) (c .choice-count .ensures)
 
-few : (c : tie.After-choice-count) → c .choice-count .result ≤ length (c .before .before .before .before .before .before .before .before .before .before .before .before .args .choices .now)
+few : (c : tie.After-choice-count) → c .choice-count .result ≤ length
+    (c .before .before .before .before .before .before .before .before .before .before .before .before .args .choices .now)
 few c = omega (arith, few-states c, c .before .before .before .before .before .before .before .before .before .before .before .before .pre .long .choices)
 
 abbrev after : tie.After-check → List ℕ
 after c = c .check .last .1 .1 .1 .1 .1 .1 .1 .1 .1 .1 .1 .0
 
-kept : (c : tie.After-check) → length (after c) ≡ length (take (c .before .before .before .before .before .before .before .before .before .before .choice-count .result) (c .before .before .before .before .before .before .before .before .before .before .before .before .before .before .before .before .before .before .before .before .before .before .args .choices .now))
+kept : (c : tie.After-check) → length (after c) ≡ length
+    (take (c .before .before .before .before .before .before .before .before .before .before .choice-count .result)
+    (c .before .before .before .before .before .before .before .before .before .before .before .before .before .before .before .before .before .before
+    .before .before .before .before .args .choices .now))
 kept c = omega (arith, c .check .kept)
 
 slice-aggregate-check : tie.Need-slice-aggregate-check
@@ -62,24 +70,33 @@ slice-aggregate-check-9 : tie.Need-slice-aggregate-check-9
 slice-aggregate-check-9 c = sym (length-take-le _ _ (few (c .before .before .before .before .before .before .before .before .before)))
 
 slice-reshare-prefix-print : tie.Need-slice-reshare-prefix-print
-slice-reshare-prefix-print c = still-fits _ _ (after (c .before .before)) (few (c .before .before .before .before .before .before .before .before .before .before .before .before)) (kept (c .before .before))
+slice-reshare-prefix-print c = still-fits _ _ (after (c .before .before))
+    (few (c .before .before .before .before .before .before .before .before .before .before .before .before)) (kept (c .before .before))
 
 slice-aggregate-print : tie.Need-slice-aggregate-print
-slice-aggregate-print c = still-cut _ _ (after (c .before .before .before)) (few (c .before .before .before .before .before .before .before .before .before .before .before .before .before)) (kept (c .before .before .before))
+slice-aggregate-print c = still-cut _ _ (after (c .before .before .before))
+    (few (c .before .before .before .before .before .before .before .before .before .before .before .before .before)) (kept (c .before .before .before))
 
 print-requires : tie.Need-print-requires
 print-requires c κs =
     let checked = c .before .before .before .before in
     let counted = checked .before .before .before .before .before .before .before .before .before .before in
     let start = counted .before .before .before .before .before .before .before .before .before .before .before .before in
-    omega (arith, still-cut (counted .choice-count .result) (start .args .choices .now) (after checked) (few counted) (kept checked), few-states counted, start .pre .long .printed)
+    omega (
+      arith,
+      still-cut (counted .choice-count .result) (start .args .choices .now) (after checked) (few counted)
+          (kept checked),
+      few-states counted,
+      start .pre .long .printed,
+    )
 
 returns : tie.Need-returns
 returns c =
     let checked = c .before .before .before .before .before .before .before .before in
     let counted = checked .before .before .before .before .before .before .before .before .before .before in
     let start = counted .before .before .before .before .before .before .before .before .before .before .before .before in
-    printed _ _ (after checked) (few counted) (kept checked) (start .args .h) _ (lists start) (counted .before .counts-of .ensures .0) (counted .choice-count .ensures) _
+    printed _ _ (after checked) (few counted) (kept checked) (start .args .h) _ (lists start) (counted .before .counts-of .ensures .0)
+    (counted .choice-count .ensures) _
     (checked .check .ensures) _ _ _ (c .number .ensures) (c .before .before .before .print .ensures .0) (c .before .before .before .print .ensures .1)
 
 pub judged-spec : {M : Type 1} → statement M

@@ -10,33 +10,44 @@ use Rattle.program.proofs.unprinted.Tie as tie
 abbrev before : tie.Start → Tables
 before c =
     let a = c .args in
-    tables (a .marks .now) (a .action-starts .now) (a .branch-starts .now) (a .destinations .now) (a .weights .now) (a .costs .now) (a .claims .now) (a .ranks .now)
+    tables (a .marks .now) (a .action-starts .now) (a .branch-starts .now) (a .destinations .now) (a .weights .now) (a .costs .now) (a .claims .now)
+    (a .ranks .now)
 
 abbrev after : tie.After-load → Tables
 after c =
-    tables (c .load .last .1 .1 .0) (c .load .last .1 .1 .1 .0) (c .load .last .1 .1 .1 .1 .0) (c .load .last .1 .1 .1 .1 .1 .0) (c .load .last .1 .1 .1 .1 .1 .1 .0) (c .load .last .1 .1 .1 .1 .1 .1 .1 .0) (c .load .last .1 .1 .1 .1 .1 .1 .1 .1 .0) (c .load .last .1 .1 .1 .1 .1 .1 .1 .1 .1 .0)
+    tables (c .load .last .1 .1 .0) (c .load .last .1 .1 .1 .0) (c .load .last .1 .1 .1 .1 .0) (c .load .last .1 .1 .1 .1 .1 .0)
+    (c .load .last .1 .1 .1 .1 .1 .1 .0) (c .load .last .1 .1 .1 .1 .1 .1 .1 .0) (c .load .last .1 .1 .1 .1 .1 .1 .1 .1 .0)
+    (c .load .last .1 .1 .1 .1 .1 .1 .1 .1 .1 .0)
 
-kept : (c : tie.After-load) → lent (after c) ≡ lent (before (c .before .before .before .before .before .before .before .before .before .before .before .before .before .before .before .before .before .before))
+kept : (c : tie.After-load) → lent (after c) ≡ lent
+    (before (c .before .before .before .before .before .before .before .before .before .before .before .before .before .before .before .before .before
+    .before))
 kept c =
     let k = c .load .kept in
-    lengths-kept (before (c .before .before .before .before .before .before .before .before .before .before .before .before .before .before .before .before .before .before)) (after c) (omega (arith, k)) (omega (arith, k)) (omega (arith, k)) (omega (arith, k)) (omega (arith, k)) (omega (arith, k)) (omega (arith, k)) (omega (arith, k))
+    lengths-kept (before (c .before .before .before .before .before .before .before .before .before .before .before .before .before .before .before
+    .before .before .before)) (after c) (omega (arith, k)) (omega (arith, k)) (omega (arith, k)) (omega (arith, k)) (omega (arith, k))
+    (omega (arith, k)) (omega (arith, k)) (omega (arith, k))
 
 refusal-requires : tie.Need-refusal-requires
 refusal-requires c κs =
     let known = c .before .before .before .before .before .before .before .before .before in
-    let loaded = known .before .before .before .before .before .before .before .before .before .before .before .before .before .before .before .before .before .before in
+    let loaded = known .before .before .before .before .before .before .before .before .before .before .before .before .before .before .before .before
+    .before .before in
     roomy _ _ _ (after loaded) (read-into _ _ _ _ _ (loaded .load .ensures) _ (known .outcome .given .1)) _ (known .outcome .given .1) (kept loaded)
 
 returns : tie.Need-returns
 returns c =
     let known = c .before .before .before .before .before .before .before .before .before .before .before .before in
-    let loaded = known .before .before .before .before .before .before .before .before .before .before .before .before .before .before .before .before .before .before in
-    number-read _ _ _ _ (after loaded) (loaded .load .ensures) _ (known .outcome .given .1) _ _ _ (c .before .before .refusal .ensures) (c .before .require .ensures) (c .number .ensures)
+    let loaded = known .before .before .before .before .before .before .before .before .before .before .before .before .before .before .before .before
+    .before .before in
+    number-read _ _ _ _ (after loaded) (loaded .load .ensures) _ (known .outcome .given .1) _ _ _ (c .before .before .refusal .ensures)
+    (c .before .require .ensures) (c .number .ensures)
 
 returns-2 : tie.Need-returns-2
 returns-2 c =
     let known = c .before in
-    let loaded = known .before .before .before .before .before .before .before .before .before .before .before .before .before .before .before .before .before .before in
+    let loaded = known .before .before .before .before .before .before .before .before .before .before .before .before .before .before .before .before
+    .before .before in
     number-refused _ _ _ _ (after loaded) (loaded .load .ensures) _ _ (known .outcome2 .given .1)
 
 pub unprinted-spec : {M : Type 1} → statement M

@@ -65,8 +65,11 @@ module _ (right : Bool) (o : Outcome) (file : List ℕ) (before : Tables) (list 
 
 returns : tie.Need-returns
 returns c =
-    let tested = c .before .before .before .before .before .before .before .before .before .before .before .before .before .before .before .before .before .before .before .before .before .before .before .before .before in
-    shut _ _ _ _ _ _ _ (sym (tested .before .lists-right .ensures) ∙ not-true _ (tested .if1 .taken)) _ _ (c .before .before .before .before .before .before .before .before .before .before .before .before .before .before .before .before .unprinted .ensures)
+    let tested = c .before .before .before .before .before .before .before .before .before .before .before .before .before .before .before .before
+    .before .before .before .before .before .before .before .before .before in
+    shut _ _ _ _ _ _ _ (sym (tested .before .lists-right .ensures) ∙ not-true _ (tested .if1 .taken)) _ _
+    (c .before .before .before .before .before .before .before .before .before .before .before .before .before .before .before .before .unprinted
+    .ensures)
 
 right : (c : tie.Else1) → c .before .lists-right .result ≡ true
 right c = not-false _ (c .if1 .left)
@@ -79,14 +82,19 @@ answer-within-requires c κs =
 
 put-two-requires : tie.Need-put-two-requires
 put-two-requires c κs =
-    let tested = c .before .before .before .before .before .before .before .before .before .before .before .before .before .before .before .before .before .before .before .before .before .before .before .before .before .before .before .before .before .before .before .before .before in
+    let tested = c .before .before .before .before .before .before .before .before .before .before .before .before .before .before .before .before
+    .before .before .before .before .before .before .before .before .before .before .before .before .before .before .before .before .before in
     let a = tested .before .before .before .before .before .before .before .before .before .before .before .before .before .before .args in
     two (length (a .marks .now)) (a .choices .now) (a .text .now) (a .result .now) (sym (tested .before .lists-right .ensures) ∙ right tested)
 
 returns-2 : tie.Need-returns-2
 returns-2 c =
-    let tested = c .before .before .before .before .before .before .before .before .before .before .before .before .before .before .before .before .before .before .before .before .before .before .before .before .before .before .before .before .before .before .before .before .before .before .before .before in
-    answered _ _ _ _ _ _ _ (sym (tested .before .lists-right .ensures) ∙ right tested) _ _ _ _ _ (c .before .before .before .before .before .before .before .before .before .before .before .before .before .before .before .before .before .before .before .before .before .before .before .before .before .answer-within .ensures) (c .before .before .put-two .ensures)
+    let tested = c .before .before .before .before .before .before .before .before .before .before .before .before .before .before .before .before
+    .before .before .before .before .before .before .before .before .before .before .before .before .before .before .before .before .before
+    .before .before .before in
+    answered _ _ _ _ _ _ _ (sym (tested .before .lists-right .ensures) ∙ right tested) _ _ _ _ _
+    (c .before .before .before .before .before .before .before .before .before .before .before .before .before .before .before .before .before
+    .before .before .before .before .before .before .before .before .answer-within .ensures) (c .before .before .put-two .ensures)
 
 pub vartrymoy-answer-spec : {M : Type 1} → statement M
 vartrymoy-answer-spec =

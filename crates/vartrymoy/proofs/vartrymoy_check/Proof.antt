@@ -28,7 +28,8 @@ module _ (kind : ℕ) (t : Model) (u : Claim) (before answer : List ℕ) where
         sound = λ l. absurd (n l);
       }
 
-  answered : length answer ≡ 4 → (x : Answer) (r : ℕ) (after written : List ℕ) → Checked kind t u before x after → r ≡ number (x .verdict) → written ≡ numbersOf x
+  answered : length answer ≡ 4 → (x : Answer) (r : ℕ) (after written : List ℕ) → Checked kind t u before x after → r ≡ number (x .verdict)
+      → written ≡ numbersOf x
       → CheckedInto kind t u before answer r after written
   unfolding numberOf
   answered l x r after written w e f =
@@ -41,13 +42,16 @@ module _ (kind : ℕ) (t : Model) (u : Claim) (before answer : List ℕ) where
 
 returns : tie.Need-returns
 unfolding require
-returns c = shut _ _ _ _ _ (c .before .before .before .if1 .taken) _ _ (c .before .before .refuse .ensures) (c .number .ensures ∙ ap number (c .before .require .ensures))
+returns c = shut _ _ _ _ _ (c .before .before .before .if1 .taken) _ _ (c .before .before .refuse .ensures)
+    (c .number .ensures ∙ ap number (c .before .require .ensures))
 
 returns-2 : tie.Need-returns-2
-returns-2 c = answered _ _ _ _ _ (c .before .before .before .before .before .before .before .before .if1 .left) _ _ _ _ (c .before .before .before .before .before .before .check .ensures) (c .before .before .put .ensures .0) (c .before .before .put .ensures .1)
+returns-2 c = answered _ _ _ _ _ (c .before .before .before .before .before .before .before .before .if1 .left) _ _ _ _
+    (c .before .before .before .before .before .before .check .ensures) (c .before .before .put .ensures .0) (c .before .before .put .ensures .1)
 
 pub vartrymoy-check-spec : {M : Type 1} → statement M
 vartrymoy-check-spec =
     tie.close
-    (tie.spec (λ c κs. search needs) (λ c κs. search needs) (λ c κs. search needs) returns (λ c κs. search needs) (λ c κs. c .before .before .before .before .before .if1 .left) (λ c. search needs)
+    (tie.spec (λ c κs. search needs) (λ c κs. search needs) (λ c κs. search needs) returns (λ c κs. search needs)
+    (λ c κs. c .before .before .before .before .before .if1 .left) (λ c. search needs)
     (λ c. search needs) returns-2)

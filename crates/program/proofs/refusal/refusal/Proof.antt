@@ -8,9 +8,11 @@ use Rattle.program.proofs.refusal.refusal.Tie as tie
 abbrev lists : tie.Start → Tables
 lists c =
     let a = c .args in
-    tables (a .marks .now) (a .action-starts .now) (a .branch-starts .now) (a .destinations .now) (a .weights .now) (a .costs .now) (a .claims .now) (a .ranks .now)
+    tables (a .marks .now) (a .action-starts .now) (a .branch-starts .now) (a .destinations .now) (a .weights .now) (a .costs .now) (a .claims .now)
+    (a .ranks .now)
 
-all : (c : tie.After-choice-count) → Cuts (c .before .counts-of .result) (lists (c .before .before .before .before .before .before .before .before .before .before))
+all : (c : tie.After-choice-count) → Cuts (c .before .counts-of .result)
+    (lists (c .before .before .before .before .before .before .before .before .before .before))
 all c = cuts _ _ _ (c .before .counts-of .ensures .0) (c .before .before .before .before .before .before .before .before .before .before .pre)
 
 slice-aggregate-refuse : tie.Need-slice-aggregate-refuse
@@ -40,7 +42,8 @@ slice-aggregate-refuse-8 c = all (c .before .before .before .before .before .bef
 returns : tie.Need-returns
 returns c =
     let counted = c .before .before .before .before .before .before .before .before .before in
-    refused-cut _ _ (lists (counted .before .before .before .before .before .before .before .before .before .before)) _ (counted .before .counts-of .ensures .0) (counted .choice-count .ensures) _ (c .refuse .ensures)
+    refused-cut _ _ (lists (counted .before .before .before .before .before .before .before .before .before .before)) _
+    (counted .before .counts-of .ensures .0) (counted .choice-count .ensures) _ (c .refuse .ensures)
 
 pub refusal-spec : {M : Type 1} → statement M
 refusal-spec =
