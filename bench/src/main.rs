@@ -1,5 +1,9 @@
-//! Measures the proved library against the independent program, see `run`, and compares the two writers.
+//! Measures the proved library against the independent program, see `run`, and compares the two writers and the two answers;
+//! measures the front door against the independent program as whole processes.
 
+mod answers;
+mod front;
+mod loan;
 mod ours;
 mod tables;
 mod writers;
@@ -12,6 +16,9 @@ use std::time::Instant;
 use independent::check::{check, Refusal, Verdict};
 use independent::file;
 use independent::kind::Kind;
+use independent::program::answer_into;
+
+use loan::Loan;
 
 include!(concat!(env!("OUT_DIR"), "/padding.rs"));
 
@@ -30,12 +37,18 @@ fn main() {
     match words[..] {
         ["measure"] => measure(),
         ["table"] => table(),
-        ["writers", seed, count] => {
-            let [seed, count] = [seed, count].map(|n| n.parse().expect("a number"));
-            writers::compare(seed, count);
-        }
-        _ => eprintln!("usage: bench measure | bench table < MEASURED | bench writers SEED COUNT"),
+        ["front"] => front::measure(),
+        ["writers", seed, count] => writers::compare(number(seed), number(count)),
+        ["answers", seed, count] => answers::compare(number(seed), number(count)),
+        _ => eprintln!(
+            "usage: bench measure | bench table < MEASURED | bench front | \
+             bench writers SEED COUNT | bench answers SEED COUNT"
+        ),
     }
+}
+
+fn number(word: &str) -> u64 {
+    word.parse().expect("a number")
 }
 
 /// One placement: a line for each measurement, with ns per branch of ours and of theirs.
@@ -52,6 +65,7 @@ fn measure() {
     report("2 rows alone", MOST_BRANCHES, checked(&rows_only, 13));
     report("3 file read", MOST_BRANCHES, read());
     report("3 file write", MOST_BRANCHES, write());
+    report("3 file answer", MOST_BRANCHES, answer());
     for kind in 1..=2 {
         for branches in [10_000, 100_000, MOST_BRANCHES] {
             let label = format!("4 kind {kind}, {branches:7} branches");
@@ -139,6 +153,20 @@ fn write() -> [f64; 2] {
 fn independent_write(t: &file::Certificate, buffer: &mut [u8]) -> Result<usize, Refusal> {
     file::write_into(t.kind, t.d, t.c, &t.marks, &t.action_starts, &t.branch_starts, &t.destinations, &t.weights,
         &t.costs, &t.claims, &t.ranks, buffer)
+}
+
+fn answer() -> [f64; 2] {
+    let accepted = tables::accepted(8, MOST_BRANCHES);
+    let bytes = file::write(&accepted);
+    let mut first = Loan::with_lists(accepted.clone());
+    let mut second = first.clone();
+    let times = best(
+        || assert_eq!(first.lend(black_box(&bytes), ours::answer), 0),
+        || assert_eq!(second.lend(black_box(&bytes), answer_into), 0),
+    );
+    first.assert_same(&second, "the answer at all limits");
+    assert!(first.tables == accepted && first.text.starts_with(b"accepted 19999\n0 -\n1 5\n"));
+    times
 }
 
 /// The means over all placements that were measured.

@@ -18,6 +18,11 @@ extern "C" {
         destinations: *const u32, destinations_len: usize, weights: *const u32, weights_len: usize,
         costs: *const u32, costs_len: usize, claims: *const u64, claims_len: usize, ranks: *const u32, ranks_len: usize,
         buffer: *mut u8, buffer_len: usize, result: *mut u64, result_len: usize) -> u32;
+    fn vartrymoy_answer(file: *const u8, file_len: usize, marks: *mut u8, marks_len: usize,
+        action_starts: *mut u32, action_starts_len: usize, branch_starts: *mut u32, branch_starts_len: usize,
+        destinations: *mut u32, destinations_len: usize, weights: *mut u32, weights_len: usize,
+        costs: *mut u32, costs_len: usize, claims: *mut u64, claims_len: usize, ranks: *mut u32, ranks_len: usize,
+        choices: *mut u32, choices_len: usize, text: *mut u8, text_len: usize, result: *mut u64, result_len: usize) -> u32;
 }
 
 /// Number, value, action and kind.
@@ -58,4 +63,16 @@ pub fn write(t: &Certificate, buffer: &mut [u8]) -> [u64; 2] {
             buffer.as_mut_ptr(), buffer.len(), result.as_mut_ptr(), result.len());
     }
     result
+}
+
+/// The number that is printed, or that of the refusal where nothing is.
+#[rustfmt::skip]
+pub fn answer(file: &[u8], t: &mut Lent, choices: &mut [u32], text: &mut [u8], result: &mut [u64]) -> u32 {
+    unsafe {
+        vartrymoy_answer(file.as_ptr(), file.len(), t.marks.as_mut_ptr(), t.marks.len(),
+            t.action_starts.as_mut_ptr(), t.action_starts.len(), t.branch_starts.as_mut_ptr(), t.branch_starts.len(),
+            t.destinations.as_mut_ptr(), t.destinations.len(), t.weights.as_mut_ptr(), t.weights.len(),
+            t.costs.as_mut_ptr(), t.costs.len(), t.claims.as_mut_ptr(), t.claims.len(), t.ranks.as_mut_ptr(), t.ranks.len(),
+            choices.as_mut_ptr(), choices.len(), text.as_mut_ptr(), text.len(), result.as_mut_ptr(), result.len())
+    }
 }

@@ -1,6 +1,8 @@
 //! The certificate file: reading it into lent tables, and writing one.
 
-use crate::check::{refusals, Claim, Refusal, Rows, MAX_ACTIONS, MAX_BRANCHES, MAX_STATES};
+use crate::check::{
+    check, refusals, Claim, Refusal, Rows, Verdict, MAX_ACTIONS, MAX_BRANCHES, MAX_STATES,
+};
 use crate::kind::Kind;
 
 /// Bytes before the tables: length field, version, kind, scales and counts.
@@ -255,7 +257,7 @@ pub fn write_into(
             ranks,
         },
     };
-    refusals(kind, &content.rows, &content.claim, None)?;
+    content.refusals()?;
     let length = content.file_bytes();
     let file = buffer.get_mut(..length).ok_or(Refusal {
         number: 35,
@@ -297,13 +299,59 @@ pub fn set_length_field(file: &mut [u8]) {
 }
 
 /// What a file is made of.
-struct Content<'a> {
+pub(crate) struct Content<'a> {
     kind: u32,
     rows: Rows<'a>,
     claim: Claim<'a>,
 }
 
-impl Content<'_> {
+impl<'a> Content<'a> {
+    /// Of a file that was read. Beyond its counts the tables hold what was
+    /// there before, so they are taken up to the counts.
+    pub fn of(header: &Header, kind: Kind, lent: &'a Lent) -> Content<'a> {
+        let entries = Entries::of(header, kind);
+        Content {
+            kind: header.kind,
+            rows: Rows {
+                d: header.d,
+                marks: &lent.marks[..entries.marks],
+                action_starts: &lent.action_starts[..entries.action_starts],
+                branch_starts: &lent.branch_starts[..entries.branch_starts],
+                destinations: &lent.destinations[..entries.destinations],
+                weights: &lent.weights[..entries.weights],
+            },
+            claim: Claim {
+                c: header.c,
+                costs: &lent.costs[..entries.costs],
+                claims: &lent.claims[..entries.claims],
+                ranks: &lent.ranks[..entries.ranks],
+            },
+        }
+    }
+
+    pub fn check(&self, choices: &mut [u32]) -> Verdict {
+        let Content { kind, rows, claim } = self;
+        check(
+            *kind,
+            rows.d,
+            claim.c,
+            rows.marks,
+            rows.action_starts,
+            rows.branch_starts,
+            rows.destinations,
+            rows.weights,
+            claim.costs,
+            claim.claims,
+            claim.ranks,
+            choices,
+        )
+    }
+
+    /// Refusals 1 to 14, the choice list aside.
+    pub fn refusals(&self) -> Result<(), Refusal> {
+        refusals(self.kind, &self.rows, &self.claim, None).map(|_| ())
+    }
+
     fn file_bytes(&self) -> usize {
         let Content { rows, claim, .. } = self;
         let entries = Entries {

@@ -8,7 +8,7 @@ mod damage;
 pub mod limits;
 mod model;
 mod near;
-mod rng;
+pub mod rng;
 
 use rng::Rng;
 

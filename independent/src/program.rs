@@ -3,8 +3,8 @@
 
 use std::fmt;
 
-use crate::check::{check, Refusal, Verdict, MAX_ACTIONS, MAX_BRANCHES, MAX_STATES, NONE};
-use crate::file::{self, Certificate, Entries, Header};
+use crate::check::{Refusal, Verdict, MAX_ACTIONS, MAX_BRANCHES, MAX_STATES, NONE};
+use crate::file::{self, Certificate, Content, Entries, Header, Lent};
 use crate::kind::Kind;
 
 /// The counts up to which a file can be read.
@@ -62,6 +62,84 @@ pub fn read(input: &[u8], room: Room) -> Result<Certificate, Refusal> {
     Ok(cut(desk.tables, &header))
 }
 
+/// Entries of the result that `answer_into` fills.
+pub const RESULT_ENTRIES: usize = 2;
+
+/// The bytes that a text must have for what may be printed of so many states.
+pub const fn text_bytes(states: usize) -> usize {
+    states.saturating_mul(32).saturating_add(64)
+}
+
+/// Reads the input as a file into lent tables of any length, checks it and
+/// prints, as include/vartrymoy.h says of `vartrymoy_answer`. The result gets
+/// the number, which is also returned, and how many bytes were printed at the
+/// front of the text; the choice list gets the choices of an accepted "some"
+/// claim at its front.
+///
+/// Where the choice list or the text is too short for as many states as there
+/// are marks, or the result has not two entries, nothing is written to the
+/// three, and 5 is the number if neither the file nor its tables are refused.
+pub fn answer_into(
+    input: &[u8],
+    lent: &mut Lent,
+    choices: &mut [u32],
+    text: &mut [u8],
+    result: &mut [u64],
+) -> u32 {
+    let read = read_within(input, Room::WHOLE, lent);
+    let states = lent.marks.len();
+    let fit = choices.len() >= states
+        && text.len() >= text_bytes(states)
+        && result.len() == RESULT_ENTRIES;
+    if !fit {
+        return refusal(read, lent).map_or(5, |refusal| refusal.number);
+    }
+    let (verdict, chosen) = match read {
+        Ok(header) => checked(&header, lent, choices),
+        Err(refusal) => (refusal.into(), &[][..]),
+    };
+    let mut printed = Vec::new();
+    print(verdict, chosen, &mut printed);
+    text[..printed.len()].copy_from_slice(&printed);
+    result.copy_from_slice(&[u64::from(verdict.number()), printed.len() as u64]);
+    verdict.number()
+}
+
+/// Reads the input as a file, unless it is longer than the room can need.
+fn read_within(input: &[u8], room: Room, lent: &mut Lent) -> Result<Header, Refusal> {
+    let refused = |number| Refusal { number, place: 0 };
+    if input.len() > room.most_bytes() {
+        return Err(refused(33));
+    }
+    file::read(input, lent).map_err(refused)
+}
+
+/// The refusal over a file or its tables, if there is one.
+fn refusal(read: Result<Header, Refusal>, lent: &Lent) -> Option<Refusal> {
+    let accepted = read.and_then(|header| content(&header, lent).refusals());
+    accepted.err()
+}
+
+/// Checks the file that was read, and gives the choices too, which are at the
+/// front of the list: none but those of an accepted "some" claim.
+fn checked<'a>(header: &Header, lent: &Lent, choices: &'a mut [u32]) -> (Verdict, &'a [u32]) {
+    let length = if kind_of(header).some {
+        header.states
+    } else {
+        0
+    };
+    let choices = &mut choices[..length];
+    let verdict = content(header, lent).check(choices);
+    match verdict {
+        Verdict::Accepted { .. } => (verdict, choices),
+        _ => (verdict, &[]),
+    }
+}
+
+fn content<'a>(header: &Header, lent: &'a Lent) -> Content<'a> {
+    Content::of(header, kind_of(header), lent)
+}
+
 /// Tables as long as there is room for, lent for one file after the other.
 pub struct Desk {
     room: Room,
@@ -100,38 +178,14 @@ impl Desk {
     }
 
     fn read(&mut self, input: &[u8]) -> Result<Header, Refusal> {
-        let refused = |number| Refusal { number, place: 0 };
-        if input.len() > self.room.most_bytes() {
-            return Err(refused(33));
-        }
-        file::read(input, &mut self.tables.lent()).map_err(refused)
+        read_within(input, self.room, &mut self.tables.lent())
     }
 
-    /// Checks the file that was read. Beyond its counts the tables may hold
-    /// what an earlier file left there, so they are lent up to the counts.
-    fn checked(&self, header: &Header) -> Answer {
-        let kind = kind_of(header);
-        let entries = Entries::of(header, kind);
-        let tables = &self.tables;
-        let length = if kind.some { header.states } else { 0 };
-        let mut choices = vec![NONE; length];
-        let verdict = check(
-            header.kind,
-            header.d,
-            header.c,
-            &tables.marks[..entries.marks],
-            &tables.action_starts[..entries.action_starts],
-            &tables.branch_starts[..entries.branch_starts],
-            &tables.destinations[..entries.destinations],
-            &tables.weights[..entries.weights],
-            &tables.costs[..entries.costs],
-            &tables.claims[..entries.claims],
-            &tables.ranks[..entries.ranks],
-            &mut choices,
-        );
-        if verdict.number() != 0 {
-            choices.clear();
-        }
+    fn checked(&mut self, header: &Header) -> Answer {
+        let mut choices = vec![NONE; header.states];
+        let (verdict, chosen) = checked(header, &self.tables.lent(), &mut choices);
+        let length = chosen.len();
+        choices.truncate(length);
         Answer {
             kind: Some(header.kind),
             verdict,
@@ -166,26 +220,30 @@ fn kind_of(header: &Header) -> Kind {
 impl Answer {
     /// Puts what is printed at the end of a text.
     pub fn print(&self, text: &mut Vec<u8>) {
-        match self.verdict {
-            Verdict::Accepted { greatest_rank } => {
-                put_line(text, "accepted", &[Some(greatest_rank)]);
-            }
-            Verdict::Refused { number, place } => {
-                put_line(text, "refused", &[Some(number), Some(place)]);
-            }
-            Verdict::Violated {
-                number,
-                state,
-                action,
-            } => put_line(text, "violated", &[Some(number), Some(state), action]),
+        print(self.verdict, &self.choices, text);
+    }
+}
+
+fn print(verdict: Verdict, choices: &[u32], text: &mut Vec<u8>) {
+    match verdict {
+        Verdict::Accepted { greatest_rank } => {
+            put_line(text, "accepted", &[Some(greatest_rank)]);
         }
-        text.reserve(self.choices.len() * LONGEST_CHOICE_LINE);
-        for (state, &choice) in self.choices.iter().enumerate() {
-            put_number(text, state as u32);
-            text.push(b' ');
-            put_or_dash(text, (choice != NONE).then_some(choice));
-            text.push(b'\n');
+        Verdict::Refused { number, place } => {
+            put_line(text, "refused", &[Some(number), Some(place)]);
         }
+        Verdict::Violated {
+            number,
+            state,
+            action,
+        } => put_line(text, "violated", &[Some(number), Some(state), action]),
+    }
+    text.reserve(choices.len() * LONGEST_CHOICE_LINE);
+    for (state, &choice) in choices.iter().enumerate() {
+        put_number(text, state as u32);
+        text.push(b' ');
+        put_or_dash(text, (choice != NONE).then_some(choice));
+        text.push(b'\n');
     }
 }
 

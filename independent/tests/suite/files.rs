@@ -1,43 +1,11 @@
 //! Reading files, and what the check program makes of them.
 
-use crate::models::{held, FILLING};
-use independent::file::{read, set_length_field, write, Certificate, Header};
+use crate::models::{held, put, Tables, FILLING, FILLING_LONG, FILLING_WORD};
+use independent::file::{set_length_field, write, Certificate};
 use independent::program::{answer, Room};
 
 const STATES_PLACE: usize = 14;
 const BRANCHES_PLACE: usize = 22;
-const FILLING_WORD: u32 = 0xeeee_eeee;
-const FILLING_LONG: u64 = 0xeeee_eeee_eeee_eeee;
-
-/// Tables to lend, of given lengths.
-#[derive(Clone, Debug, PartialEq, Eq)]
-struct Tables(Certificate);
-
-impl Tables {
-    fn new(states: usize, actions: usize, branches: usize) -> Tables {
-        Tables(Certificate {
-            kind: 0,
-            d: 0,
-            c: 0,
-            marks: vec![FILLING; states],
-            action_starts: vec![FILLING_WORD; states + 1],
-            branch_starts: vec![FILLING_WORD; actions + 1],
-            destinations: vec![FILLING_WORD; branches],
-            weights: vec![FILLING_WORD; branches],
-            costs: vec![FILLING_WORD; states],
-            claims: vec![FILLING_LONG; states],
-            ranks: vec![FILLING_WORD; states],
-        })
-    }
-
-    fn read(&mut self, bytes: &[u8]) -> Result<Header, u32> {
-        read(bytes, &mut self.0.lent())
-    }
-}
-
-fn put(file: &mut [u8], place: usize, word: u32) {
-    file[place..place + 4].copy_from_slice(&word.to_be_bytes());
-}
 
 fn printed(file: &[u8]) -> String {
     answer(file, Room::CHECK).to_string()

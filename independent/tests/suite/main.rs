@@ -1,5 +1,6 @@
 //! The tests of the library and of the commands.
 
+mod answered;
 mod commands;
 mod files;
 mod generated;

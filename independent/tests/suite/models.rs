@@ -1,13 +1,15 @@
 //! The small models of document 01, and what the tests share.
 
 use independent::check::{check, Refusal, Verdict, NONE};
-use independent::file::{write_into, Certificate};
+use independent::file::{read, write_into, Certificate, Header};
 use independent::kind::Kind;
 
 /// Stands in choice lists that must be left alone.
 pub const UNTOUCHED: u32 = 77;
 /// Stands in tables and buffers before they are lent.
 pub const FILLING: u8 = 0xee;
+pub const FILLING_WORD: u32 = 0xeeee_eeee;
+pub const FILLING_LONG: u64 = 0xeeee_eeee_eeee_eeee;
 
 pub fn model_a(kind: u32, claims: [u64; 3], ranks: &[u32]) -> Certificate {
     let cost = Kind::numbered(kind).is_some_and(|kind| kind.cost);
@@ -98,6 +100,37 @@ pub fn written(claim: &Certificate, buffer: &mut [u8]) -> Result<usize, Refusal>
         &claim.ranks,
         buffer,
     )
+}
+
+/// Tables to lend, of given lengths.
+#[derive(Clone, Debug, PartialEq, Eq)]
+pub struct Tables(pub Certificate);
+
+impl Tables {
+    pub fn new(states: usize, actions: usize, branches: usize) -> Tables {
+        Tables(Certificate {
+            kind: 0,
+            d: 0,
+            c: 0,
+            marks: vec![FILLING; states],
+            action_starts: vec![FILLING_WORD; states + 1],
+            branch_starts: vec![FILLING_WORD; actions + 1],
+            destinations: vec![FILLING_WORD; branches],
+            weights: vec![FILLING_WORD; branches],
+            costs: vec![FILLING_WORD; states],
+            claims: vec![FILLING_LONG; states],
+            ranks: vec![FILLING_WORD; states],
+        })
+    }
+
+    pub fn read(&mut self, bytes: &[u8]) -> Result<Header, u32> {
+        read(bytes, &mut self.0.lent())
+    }
+}
+
+/// Puts a word of a file.
+pub fn put(file: &mut [u8], place: usize, word: u32) {
+    file[place..place + 4].copy_from_slice(&word.to_be_bytes());
 }
 
 /// FNV-1a.
