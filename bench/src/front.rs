@@ -78,7 +78,8 @@ impl Program {
 
     fn run(&self, file: &Path) {
         let status = self.on(file).stdout(Stdio::null()).status();
-        assert!(status.expect("it ran before").success());
+        let status = status.expect("it ran before");
+        assert!(status.success(), "{:?} stopped: {status}", self.path);
     }
 }
 
