@@ -1,7 +1,6 @@
 //! The front door `./vartrymoy check` beside `independent whole`, each as a whole process, on a file at all limits of each kind.
 
 use std::env;
-use std::ffi::OsString;
 use std::fs;
 use std::path::{Path, PathBuf};
 use std::process::{self, Command, Stdio};
@@ -13,15 +12,14 @@ use crate::{tables, timed, MOST_BRANCHES, RUNS};
 const ROOT: &str = concat!(env!("CARGO_MANIFEST_DIR"), "/..");
 const KINDS: u32 = 8;
 
-/// Both are built before: `independent` for release, and the front door by its first use, here if need be. VARTRYMOY_FRONT may
-/// name the front door of another checkout.
+/// Both are built before: `independent` for release, and the front door by its first use, here if need be.
 pub fn measure() {
     let ours = Program {
-        path: env::var_os("VARTRYMOY_FRONT").unwrap_or_else(|| format!("{ROOT}/vartrymoy").into()),
+        path: format!("{ROOT}/vartrymoy"),
         command: "check",
     };
     let theirs = Program {
-        path: format!("{ROOT}/independent/target/release/independent").into(),
+        path: format!("{ROOT}/independent/target/release/independent"),
         command: "whole",
     };
     let folder = Folder::new();
@@ -52,7 +50,7 @@ fn print_row(label: &str, times: &str, [of_bests, of_medians]: [f64; 2]) {
 
 /// What answers files, started anew for each.
 struct Program {
-    path: OsString,
+    path: String,
     command: &'static str,
 }
 
