@@ -56,3 +56,64 @@ fn changed(path: &Path, since: Time) -> io::Result<bool> {
     }
     Ok(false)
 }
+
+#[cfg(test)]
+mod tests {
+    use super::*;
+    use std::fs::File;
+    use std::thread::sleep;
+    use std::time::{Duration, SystemTime};
+
+    /// A folder with a file in a folder, and the time after both were made.
+    fn folder(name: &str) -> (PathBuf, Time) {
+        let folder = env::temp_dir().join(format!("fresh-{name}-{}", std::process::id()));
+        fs::create_dir_all(folder.join("inner")).expect("a folder can be made");
+        fs::write(folder.join("inner/source"), "first").expect("a file can be written");
+        sleep(Duration::from_millis(50));
+        let mark = folder.with_extension("mark");
+        fs::write(&mark, "").expect("a file can be written");
+        let made = fs::metadata(&mark).expect("it is there");
+        fs::remove_file(mark).expect("it is there");
+        sleep(Duration::from_millis(50));
+        (folder, (made.mtime(), made.mtime_nsec()))
+    }
+
+    fn ask(folder: PathBuf, since: Time) -> bool {
+        let answer = changed(&folder, since).expect("the folder can be read");
+        fs::remove_dir_all(folder).expect("the folder can be removed");
+        answer
+    }
+
+    #[test]
+    fn what_rests_has_not_changed() {
+        let (folder, since) = folder("rests");
+        assert!(!ask(folder, since));
+    }
+
+    #[test]
+    fn a_file_that_is_written_or_removed_is_seen() {
+        let (written, since) = folder("written");
+        fs::write(written.join("inner/source"), "second").expect("a file can be written");
+        assert!(ask(written, since));
+        let (removed, since) = folder("removed");
+        fs::remove_file(removed.join("inner/source")).expect("it is there");
+        assert!(ask(removed, since));
+    }
+
+    #[test]
+    fn an_old_time_that_was_set_does_not_hide_a_change() {
+        let (folder, since) = folder("old");
+        let source = folder.join("inner/source");
+        fs::write(&source, "second").expect("a file can be written");
+        let file = File::options().append(true).open(source);
+        file.expect("it is there")
+            .set_modified(SystemTime::UNIX_EPOCH)
+            .expect("the time can be set");
+        assert!(ask(folder, since));
+    }
+
+    #[test]
+    fn a_source_that_is_gone_is_an_error() {
+        assert!(changed(Path::new("no/such/source"), (0, 0)).is_err());
+    }
+}

@@ -13,6 +13,7 @@ const NOT_USABLE: u8 = 2;
 
 fn main() -> ExitCode {
     if fresh::outdated() {
+        eprintln!("vartrymoy: the sources have changed since this program was built");
         return ExitCode::from(STALE);
     }
     let mut words = env::args_os().skip(1);

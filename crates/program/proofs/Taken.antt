@@ -25,8 +25,8 @@ use Rattle.certfile.specs.Contents.{modelIn, claimIn, modelCut, claimCut}
 use Rattle.certfile.proofs.Passed.{ready}
 use Rattle.certfile.proofs.Contents.{model-read, claim-read}
 use Rattle.program.specs.declared.Told.{Told}
-use Rattle.program.specs.Printed.{openedOf, refusalIn, verdictIn, readText, refusedText, choicesIn, chosenIn, filledBy}
-use Rattle.program.specs.Shows.{Shows, Roomy, Long, Enough, OpenedInto, Judged, Unprinted, Answered}
+use Rattle.program.specs.Printed.{loadedOf, refusalIn, verdictIn, readText, refusedText, choicesIn, chosenIn, filledBy}
+use Rattle.program.specs.Shows.{Shows, Roomy, Long, Enough, LoadedInto, Judged, Unprinted, Answered}
 
 pub lengths-kept : (t u : Tables)
     → length (u .marks) ≡ length (t .marks)
@@ -46,29 +46,29 @@ roomy o file t u w h e kept =
     λ i. subst (λ (l : List ℕ). block (announced h) i .count ≤ getD l i 0) (sym kept) (ready (lent t) file h (sym (w .answer) ∙ e) i .1)
 
 -- over-long input is refused before all else, and any other is read
-pub too-long : (most : ℕ) (file : List ℕ) (t : Tables) → most < length file → OpenedInto most (Refused 33 0) file t t
-unfolding openedOf tableOf
+pub too-long : (most : ℕ) (file : List ℕ) (t : Tables) → most < length file → LoadedInto most (Refused 33 0) file t t
+unfolding loadedOf tableOf
 too-long most file t h = record { answer = rw (lt-ltb most (length file) h); tables = refl }
 
-pub not-too-long : (most : ℕ) (file : List ℕ) (t u : Tables) (o : Outcome) → length file ≤ most → ReadInto o file t u → OpenedInto most o file t u
-unfolding openedOf
+pub not-too-long : (most : ℕ) (file : List ℕ) (t u : Tables) (o : Outcome) → length file ≤ most → ReadInto o file t u → LoadedInto most o file t u
+unfolding loadedOf
 not-too-long most file t u o h w =
     record {
       answer = rw (le-ltb most (length file) h) (w .answer);
       tables = λ j. tables (w .marks j) (w .actionStarts j) (w .branchStarts j) (w .destinations j) (w .weights j) (w .costs j) (w .claims j) (w .ranks j);
     }
 
-module _ (most : ℕ) (o : Outcome) (file : List ℕ) (t u : Tables) (w : OpenedInto most o file t u) where
-  abbrev opened : Outcome
-  opened = openedOf most (lent t) file
+module _ (most : ℕ) (o : Outcome) (file : List ℕ) (t u : Tables) (w : LoadedInto most o file t u) where
+  abbrev loaded : Outcome
+  loaded = loadedOf most (lent t) file
 
-  filled : u ≡ filledBy opened file t
+  filled : u ≡ filledBy loaded file t
   filled = w .tables ∙ ap (λ (x : Outcome). filledBy x file t) (w .answer)
 
   module _ (h : Header) (e : o ≡ Read h) where
     -- a file that is read was short enough
     was-read : outcomeOf (lent t) file ≡ Read h
-    unfolding openedOf
+    unfolding loadedOf
     was-read = by (ltb most (length file)) (sym (w .answer) ∙ e)
       where
         by : (b : Bool) → cond b (Refused 33 0) (outcomeOf (lent t) file) ≡ Read h → outcomeOf (lent t) file ≡ Read h
@@ -89,20 +89,20 @@ module _ (most : ℕ) (o : Outcome) (file : List ℕ) (t u : Tables) (w : Opened
           ranks = ap (λ (x : Tables). x .ranks) (w .tables);
         }
 
-    opened-read : Read h ≡ opened
-    opened-read = sym e ∙ w .answer
+    loaded-read : Read h ≡ loaded
+    loaded-read = sym e ∙ w .answer
 
     -- the number of a refusal over tables, or 5
-    refusal-is : refusalOf (h .kind) (modelCut h u) (claimCut h u) (chosenIn h) ≡ refusalIn opened file
+    refusal-is : refusalOf (h .kind) (modelCut h u) (claimCut h u) (chosenIn h) ≡ refusalIn loaded file
     unfolding refusalIn
     refusal-is =
         ap (λ (x : Model). refusalOf (h .kind) x (claimCut h u) (chosenIn h)) (model-read o file t u read-into h e)
         ∙ ap (λ (x : Claim). refusalOf (h .kind) (modelIn h file) x (chosenIn h)) (claim-read o file t u read-into h e)
-        ∙ ap (λ (x : Outcome). refusalIn x file) opened-read
+        ∙ ap (λ (x : Outcome). refusalIn x file) loaded-read
 
     pub number-read : (v v′ : Verdict) (r : ℕ) → v ≡ refusalOf (h .kind) (modelCut h u) (claimCut h u) (chosenIn h) → v′ ≡ then v (require false 5 0)
         → r ≡ number v′
-        → Unprinted opened file t r u
+        → Unprinted loaded file t r u
     unfolding require
     number-read v v′ r p q z = record { number = z ∙ ap number q ∙ ap (λ (x : Verdict). number (then x (Refuses 5 0))) (p ∙ refusal-is); tables = filled }
 
@@ -136,24 +136,24 @@ module _ (most : ℕ) (o : Outcome) (file : List ℕ) (t u : Tables) (w : Opened
           headers : {x y : Header} → Read x ≡ Read y → x ≡ y
           headers s = cc
 
-      pub printed-read : (r : Told) (list′ text′ : List ℕ) → Promised opened (modelCut h u) (claimCut h u) r list′ text′
+      pub printed-read : (r : Told) (list′ text′ : List ℕ) → Promised loaded (modelCut h u) (claimCut h u) r list′ text′
       printed-read r list′ text′ =
-          subst (λ (m : Model). Promised opened m (claimCut h u) r list′ text′) (sym (model-read o file t u read-into h e))
-          (subst (λ (c : Claim). Promised opened (modelIn h file) c r list′ text′) (sym (claim-read o file t u read-into h e))
-          (subst (λ (x : Outcome). Promised x (modelIn h file) (claimIn h file) r list′ text′) opened-read (whole r list′ text′)))
+          subst (λ (m : Model). Promised loaded m (claimCut h u) r list′ text′) (sym (model-read o file t u read-into h e))
+          (subst (λ (c : Claim). Promised loaded (modelIn h file) c r list′ text′) (sym (claim-read o file t u read-into h e))
+          (subst (λ (x : Outcome). Promised x (modelIn h file) (claimIn h file) r list′ text′) loaded-read (whole r list′ text′)))
 
   module _ (k p : ℕ) (e : o ≡ Refused k p) where
-    opened-refused : Refused k p ≡ opened
-    opened-refused = sym e ∙ w .answer
+    loaded-refused : Refused k p ≡ loaded
+    loaded-refused = sym e ∙ w .answer
 
-    pub number-refused : Unprinted opened file t k u
+    pub number-refused : Unprinted loaded file t k u
     unfolding refusalIn then
-    number-refused = record { number = ap (λ (x : Outcome). number (then (refusalIn x file) (Refuses 5 0))) opened-refused; tables = filled }
+    number-refused = record { number = ap (λ (x : Outcome). number (then (refusalIn x file) (Refuses 5 0))) loaded-refused; tables = filled }
 
     pub printed-refused : (list text : List ℕ) (r : Told) (text′ : List ℕ) → r .number ≡ k → Shows (refusedText k p) (r .bytes) text text′
-        → Answered opened file t list text r u list text′
+        → Answered loaded file t list text r u list text′
     unfolding verdictIn readText choicesIn
-    printed-refused list text r text′ n s = subst (λ (x : Outcome). Answered x file t list text r u list text′) opened-refused whole
+    printed-refused list text r text′ n s = subst (λ (x : Outcome). Answered x file t list text r u list text′) loaded-refused whole
       where
         whole : Answered (Refused k p) file t list text r u list text′
         whole = record {

@@ -32,9 +32,9 @@ abbrev pub mostFile : ℕ
 mostFile = 8820034
 
 -- what reading answers: input longer than the most that is taken is refused 33 at 0 before all else
-unfoldable pub openedOf : ℕ → List ℕ → List ℕ → Outcome
+unfoldable pub loadedOf : ℕ → List ℕ → List ℕ → Outcome
 unfolding outcomeOf
-openedOf most lent file = cond (ltb most (length file)) (Refused 33 0) (outcomeOf lent file)
+loadedOf most lent file = cond (ltb most (length file)) (Refused 33 0) (outcomeOf lent file)
 
 -- the entries of the choice list that a file's claim has
 abbrev pub chosenIn : Header → ℕ
@@ -89,5 +89,5 @@ filledBy o file t =
 
 -- and what the check program prints for a file
 unfoldable pub printedOf : List ℕ → List ℕ
-unfolding readText openedOf
-printedOf file = readText (openedOf mostBytes room file) file blank
+unfolding readText loadedOf
+printedOf file = readText (loadedOf mostBytes room file) file blank

@@ -17,7 +17,7 @@ use Rattle.certfile.specs.File.{announced}
 use Rattle.certfile.specs.Tables.{Tables, lent}
 use Rattle.certfile.specs.Contents.{modelIn, claimIn}
 use Rattle.program.specs.declared.Told.{Told}
-use Rattle.program.specs.Printed.{openedOf, refusalIn, verdictIn, checkedText, readText, choicesIn, chosenIn, filledBy}
+use Rattle.program.specs.Printed.{loadedOf, refusalIn, verdictIn, checkedText, readText, choicesIn, chosenIn, filledBy}
 
 pub record Shows (bytes : List ℕ) (r : ℕ) (before after : List ℕ) : Type 0 where
   pub length : r ≡ length bytes
@@ -38,8 +38,8 @@ pub record Enough (h : Header) (lent list text : List ℕ) : Type 0 where
   pub long : Long (h .n) list text
 
 -- a file was read into lent tables, if it is no longer than the most that is taken
-pub record OpenedInto (most : ℕ) (r : Outcome) (file : List ℕ) (before after : Tables) : Type 0 where
-  pub answer : r ≡ openedOf most (lent before) file
+pub record LoadedInto (most : ℕ) (r : Outcome) (file : List ℕ) (before after : Tables) : Type 0 where
+  pub answer : r ≡ loadedOf most (lent before) file
   pub tables : after ≡ filledBy r file before
 
 -- tables were checked with so many of a list's first entries, and the verdict printed

@@ -5,8 +5,8 @@ ghost use Prim.Native.Nat.{_≤_};
 ghost use lib.ListN.{length};
 ghost use Rattle.certfile.specs.Contents.{modelCut, claimCut};
 ghost use Rattle.certfile.specs.Tables.{tables, lent};
-ghost use Rattle.program.specs.Printed.{openedOf, chosenIn, refusedText, printedOf};
-ghost use Rattle.program.specs.Shows.{Shows, Long, Enough, OpenedInto, Judged, Unprinted, Answered};
+ghost use Rattle.program.specs.Printed.{loadedOf, chosenIn, refusedText, printedOf};
+ghost use Rattle.program.specs.Shows.{Shows, Long, Enough, LoadedInto, Judged, Unprinted, Answered};
 use certfile::FileRefusal;
 use certfile::Header;
 use certfile::Outcome;
@@ -89,7 +89,7 @@ fn load(
         (now (destinations .entry)) (now (weights .entry)) (now (costs .entry)) (now (claims .entry)) (now (ranks .entry)) in
         let after = tables (now (marks .exit)) (now («action_starts» .exit)) (now («branch_starts» .exit))
         (now (destinations .exit)) (now (weights .exit)) (now (costs .exit)) (now (claims .exit)) (now (ranks .exit)) in
-        ⌜ OpenedInto most r (now (file .entry)) before after ⌝ }
+        ⌜ LoadedInto most r (now (file .entry)) before after ⌝ }
 {
     if most < file.len() {
         return Outcome::Refused {
@@ -183,7 +183,7 @@ pub fn unprinted(
         (now (destinations .entry)) (now (weights .entry)) (now (costs .entry)) (now (claims .entry)) (now (ranks .entry)) in
         let after = tables (now (marks .exit)) (now («action_starts» .exit)) (now («branch_starts» .exit))
         (now (destinations .exit)) (now (weights .exit)) (now (costs .exit)) (now (claims .exit)) (now (ranks .exit)) in
-        let o = openedOf most (lent before) (now (file .entry)) in
+        let o = loadedOf most (lent before) (now (file .entry)) in
         ⌜ Unprinted o (now (file .entry)) before r after ⌝ }
 {
     let outcome = load(
@@ -237,7 +237,7 @@ pub fn answer_within(
         (now (destinations .entry)) (now (weights .entry)) (now (costs .entry)) (now (claims .entry)) (now (ranks .entry)) in
         let after = tables (now (marks .exit)) (now («action_starts» .exit)) (now («branch_starts» .exit))
         (now (destinations .exit)) (now (weights .exit)) (now (costs .exit)) (now (claims .exit)) (now (ranks .exit)) in
-        let o = openedOf most (lent before) (now (file .entry)) in
+        let o = loadedOf most (lent before) (now (file .entry)) in
         ⌜ Answered o (now (file .entry)) before (now (choices .entry)) (now (text .entry)) r
         after (now (choices .exit)) (now (text .exit)) ⌝ }
 {

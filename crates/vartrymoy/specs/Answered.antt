@@ -14,11 +14,11 @@ use Rattle.certfile.specs.declared.Outcome.{Outcome}
 use Rattle.certfile.specs.declared.Outcome.the-variants.{Read}
 use Rattle.certfile.specs.Tables.{Tables, lent}
 use Rattle.certfile.specs.Contents.{modelIn, claimIn}
-use Rattle.program.specs.Printed.{mostFile, openedOf, refusalIn, verdictIn, readText, choicesIn, chosenIn, filledBy}
+use Rattle.program.specs.Printed.{mostFile, loadedOf, refusalIn, verdictIn, readText, choicesIn, chosenIn, filledBy}
 
 -- what reading answers: no file is longer than the most that any file can have
-abbrev pub opened : Tables → List ℕ → Outcome
-opened before file = openedOf mostFile (lent before) file
+abbrev pub loaded : Tables → List ℕ → Outcome
+loaded before file = loadedOf mostFile (lent before) file
 
 -- the result list is 2 long, the choice list no shorter than the marks, and the text has room for what may be printed of so many states
 abbrev pub listsRight : ℕ → ℕ → ℕ → ℕ → Bool

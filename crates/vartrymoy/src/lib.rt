@@ -6,7 +6,7 @@ ghost use lib.ListN.{length};
 ghost use Rattle.model.specs.Answers.{number, value, action};
 ghost use Rattle.model.specs.Tables.{modelOf, claimOf};
 ghost use Rattle.certfile.specs.Tables.{tables};
-ghost use Rattle.vartrymoy.specs.Answered.{opened, listsRight, FileAnsweredInto};
+ghost use Rattle.vartrymoy.specs.Answered.{loaded, listsRight, FileAnsweredInto};
 ghost use Rattle.vartrymoy.specs.Exported.{numbersOf, CheckedInto};
 ghost use Rattle.vartrymoy.specs.Filled.{numberOr, headerAfter, FileReadInto};
 ghost use Rattle.vartrymoy.specs.Written.{writtenOr, pairOf, FileWrittenInto};
@@ -333,7 +333,7 @@ pub extern "C" fn vartrymoy_answer(
         (now (destinations .exit)) (now (weights .exit)) (now (costs .exit)) (now (claims .exit)) (now (ranks .exit)) in
         let right = listsRight (length (now (marks .entry))) (length (now (choices .entry)))
         (length (now (text .entry))) (length (now (result .entry))) in
-        ⌜ FileAnsweredInto right (opened before (now (file .entry))) (now (file .entry))
+        ⌜ FileAnsweredInto right (loaded before (now (file .entry))) (now (file .entry))
         before (now (choices .entry)) (now (text .entry)) (now (result .entry)) r
         after (now (choices .exit)) (now (text .exit)) (now (result .exit)) ⌝ }
 {
