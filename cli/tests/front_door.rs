@@ -20,8 +20,15 @@ fn example(name: &str) -> PathBuf {
     root().join("examples").join(name)
 }
 
-/// `./vartrymoy` with these words.
+/// `./vartrymoy` with these words. It is built once before, so that what it says then stands in no test's way.
 fn front_door<W: AsRef<std::ffi::OsStr>>(words: &[W]) -> Command {
+    static BUILT: OnceLock<()> = OnceLock::new();
+    BUILT.get_or_init(|| {
+        let built = Command::new(root().join("native/build"))
+            .arg("front")
+            .status();
+        assert!(built.expect("native/build runs").success());
+    });
     let mut command = Command::new(root().join("vartrymoy"));
     command.args(words);
     command
