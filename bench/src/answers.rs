@@ -3,11 +3,11 @@
 
 use std::collections::BTreeMap;
 
-use independent::check::{MAX_ACTIONS, MAX_BRANCHES, MAX_STATES};
 use independent::file::{set_length_field, write, Certificate, HEADER_BYTES};
 use independent::generate::rng::Rng;
 use independent::generate::{self, limits};
 use independent::program::{answer_into, text_bytes, Room, RESULT_ENTRIES};
+use independent::tables::{MAX_ACTIONS, MAX_BRANCHES, MAX_STATES};
 
 use crate::loan::Loan;
 use crate::ours;

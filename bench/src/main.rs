@@ -13,10 +13,11 @@ use std::hint::black_box;
 use std::io::{self, BufRead};
 use std::time::Instant;
 
-use independent::check::{check, Refusal, Verdict};
+use independent::check::check;
 use independent::file;
 use independent::kind::Kind;
 use independent::program::answer_into;
+use independent::verdict::{Refusal, Verdict};
 
 use loan::Loan;
 

@@ -3,10 +3,10 @@
 
 use std::collections::BTreeMap;
 
-use independent::check::Refusal;
 use independent::file::Certificate;
 use independent::generate;
 use independent::program::{read, Room};
+use independent::verdict::Refusal;
 
 use crate::{independent_write, ours, tables};
 

@@ -1,7 +1,8 @@
 //! Conditions 21 to 24 over well-formed tables, and the choices.
 
-use crate::check::{Claim, Rows, Verdict, MAX_STATES, NONE};
 use crate::kind::Kind;
+use crate::tables::{Claim, Rows, MAX_STATES, NONE};
+use crate::verdict::Verdict;
 
 pub(crate) struct Conditions<'a> {
     kind: Kind,

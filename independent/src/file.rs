@@ -1,9 +1,9 @@
 //! The certificate file: reading it into lent tables, and writing one.
 
-use crate::check::{
-    check, refusals, Claim, Refusal, Rows, Verdict, MAX_ACTIONS, MAX_BRANCHES, MAX_STATES,
-};
+use crate::check::check;
 use crate::kind::Kind;
+use crate::tables::{refusals, Claim, Rows, MAX_ACTIONS, MAX_BRANCHES, MAX_STATES};
+use crate::verdict::{Refusal, Verdict};
 
 /// Bytes before the tables: length field, version, kind, scales and counts.
 pub const HEADER_BYTES: usize = 26;

@@ -9,4 +9,6 @@ pub mod kind;
 pub mod program;
 pub mod rewrite;
 pub mod stream;
+pub mod tables;
+pub mod verdict;
 pub mod whole;

@@ -8,13 +8,13 @@ use std::io::{self, BufReader, BufWriter, Read, Write};
 use std::path::PathBuf;
 use std::process::ExitCode;
 
-use independent::check::MAX_BRANCHES;
 use independent::file;
 use independent::generate::{self, limits};
 use independent::kind::Kind;
 use independent::program::{answer, Room};
 use independent::rewrite::rewrite;
 use independent::stream::{read_case, split, write_case};
+use independent::tables::MAX_BRANCHES;
 use independent::whole::whole;
 
 const USAGE: &str =

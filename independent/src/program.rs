@@ -3,9 +3,10 @@
 
 use std::fmt;
 
-use crate::check::{Refusal, Verdict, MAX_ACTIONS, MAX_BRANCHES, MAX_STATES, NONE};
 use crate::file::{self, Certificate, Content, Entries, Header, Lent};
 use crate::kind::Kind;
+use crate::tables::{MAX_ACTIONS, MAX_BRANCHES, MAX_STATES, NONE};
+use crate::verdict::{Refusal, Verdict};
 
 /// The counts up to which a file can be read.
 #[derive(Clone, Copy, Debug, PartialEq, Eq)]

@@ -2,9 +2,9 @@
 
 use std::fmt;
 
-use crate::check::Refusal;
 use crate::file::write_into;
 use crate::program::{read, Room};
+use crate::verdict::Refusal;
 
 /// What comes of one file; displayed as a line without its end.
 #[derive(Clone, Copy, Debug, PartialEq, Eq)]

@@ -5,8 +5,8 @@ use std::fs::File;
 use std::io::{self, Read, Write};
 use std::os::fd::AsFd;
 
-use crate::check::Verdict;
 use crate::program::{Answer, Desk, Room};
+use crate::verdict::Verdict;
 
 /// The name that stands for standard input.
 const STANDARD_INPUT: &str = "-";

@@ -1,2 +1,2 @@
-pub mod Action
+mod Action
 mod Weighing

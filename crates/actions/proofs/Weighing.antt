@@ -7,8 +7,8 @@ use native.Mathlib.Omega.{arith}
 use lib.ListN.{length, getD}
 use Rattle.walk.proofs.Loop.{Summing, sum-start, sum-pass, sum-within, sum-ends}
 use Rattle.model.specs.Limits.{mostWeightScale, mostCostClaim}
+use Rattle.model.specs.Conditions.{weightedOver}
 use Rattle.actions.specs.Ready.{Weighable}
-use Rattle.actions.specs.Judging.{sumOf}
 
 abbrev pub term : List ℕ → List ℕ → List ℕ → ℕ → ℕ
 term destinations weights claims j = getD weights j 0 * getD claims (getD destinations j 0) 0
@@ -16,11 +16,10 @@ term destinations weights claims j = getD weights j 0 * getD claims (getD destin
 pub record Weighing (destinations weights claims : List ℕ) (lo hi total j : ℕ) : Type 0 where
   pub able : Weighable destinations weights claims lo hi
   pub low : lo ≤ j
-  pub summing : Summing (term destinations weights claims) hi (sumOf destinations weights claims lo hi) j total
+  pub summing : Summing (term destinations weights claims) hi (weightedOver destinations weights claims lo hi) j total
 
 module _ {destinations weights claims : List ℕ} {lo hi : ℕ} where
   pub weigh-start : Weighable destinations weights claims lo hi → Weighing destinations weights claims lo hi 0 lo
-  unfolding sumOf
   weigh-start w = record { able = w; low = le-refl lo; summing = sum-start (term destinations weights claims) lo hi (w .low) }
 
   module _ {total j : ℕ} (w : Weighing destinations weights claims lo hi total j) where
@@ -28,11 +27,10 @@ module _ {destinations weights claims : List ℕ} {lo hi : ℕ} where
     place-within h = w .able .inside j (w .low) h
 
     pub sum-fits : j < hi → total + term destinations weights claims j ≤ mostWeightScale * mostCostClaim
-    unfolding sumOf
     sum-fits h = le-trans (sum-within (w .summing) h) (w .able .light)
 
     pub weigh-pass : j < hi → Weighing destinations weights claims lo hi (total + term destinations weights claims j) (j + 1)
     weigh-pass h = record { able = w .able; low = omega (arith, w .low); summing = sum-pass (w .summing) h }
 
-    pub weigh-end : hi ≤ j → total ≡ sumOf destinations weights claims lo hi
+    pub weigh-end : hi ≤ j → total ≡ weightedOver destinations weights claims lo hi
     weigh-end h = sum-ends (w .summing) h

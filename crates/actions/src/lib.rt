@@ -1,19 +1,32 @@
 // One action judged by its branches, and the lowest action of a state that keeps what is asked, or does not.
 ghost use mathlib.Core.Path.{_≡_};
-ghost use mathlib.Core.Bool.{true, false, Bool·beq};
-ghost use Prim.Native.Nat.{_+_, _*_, _≤_, _<_, min};
-ghost use lib.ListN.{length, getD};
-ghost use Rattle.model.specs.Kinds.{isAtLeast, isCost};
-ghost use Rattle.model.specs.Tables.{modelOf, claimOf};
-ghost use Rattle.actions.specs.Ready.{Ready, Weighable};
-ghost use Rattle.actions.specs.Judging.{sumOf, leastOf, stateCost, keeps, lowestOf};
+ghost use mathlib.Core.Bool.{true, Bool·beq};
+ghost use Prim.Native.Nat.{min};
+ghost use lib.ListN.{length};
+ghost use Rattle.model.specs.Kinds.{isAtLeast};
+ghost use Rattle.model.specs.Conditions.{weightedOver, suitsBy};
+ghost use Rattle.actions.specs.Ready.{Weighable, Standing, Walkable};
+ghost use Rattle.actions.specs.Judging.{leastOf, rowsOf, keepsOver, lowestOf};
 use model::Kind;
 use model::Rank;
+
+// The numbers of a state: its own, its mark, its actions from the first up to, not with, the end, what their weights add up to,
+// its claim, its cost (0 if the claim has no costs) and its rank (0 if it has no ranks).
+pub struct State {
+    pub place: u32,
+    pub mark: u8,
+    pub first: u32,
+    pub end: u32,
+    pub scale: u32,
+    pub claim: u64,
+    pub cost: u32,
+    pub rank: u32,
+}
 
 // The sum over a stretch of branches of weight times the destination's claim.
 fn weighted(lo: usize, hi: usize, destinations: &[u32], weights: &[u32], claims: &[u64]) -> u64
     requires { ⌜ Weighable (now destinations) (now weights) (now claims) lo hi ⌝ }
-    ensures { λ r. ⌜ r ≡ sumOf (now (destinations .entry)) (now (weights .entry)) (now (claims .entry)) lo hi ⌝ }
+    ensures { λ r. ⌜ r ≡ weightedOver (now (destinations .entry)) (now (weights .entry)) (now (claims .entry)) lo hi ⌝ }
 {
     let mut total: u64 = 0;
     let mut j = lo;
@@ -41,7 +54,7 @@ fn sweep(
 ) -> Swept
     requires { ⌜ Weighable (now destinations) (now weights) (now claims) lo hi ⌝ }
     requires { ⌜ length (now ranks) ≡ length (now claims) ⌝ }
-    ensures { λ r. ⌜ r .sum ≡ sumOf (now (destinations .entry)) (now (weights .entry)) (now (claims .entry)) lo hi ⌝ }
+    ensures { λ r. ⌜ r .sum ≡ weightedOver (now (destinations .entry)) (now (weights .entry)) (now (claims .entry)) lo hi ⌝ }
     ensures { λ r. ⌜ r .least ≡ leastOf (now (destinations .entry)) (now (ranks .entry)) lo hi ⌝ }
 {
     let mut total: u64 = 0;
@@ -65,62 +78,53 @@ fn lesser(a: u32, b: u32) -> u32
     a
 }
 
-// The cost that counts at a state: its own for cost kinds, else 0.
-fn state_cost(kind: Kind, costs: &[u32], s: usize) -> u32
-    requires { ⌜ (isCost (kind .measure) ≡ true → s < length (now costs)) ⌝ }
-    ensures { λ r. ⌜ r ≡ stateCost kind (now (costs .entry)) s ⌝ }
+// What is expected is at most what is due, or at least, as the kind asks.
+fn suits(kind: Kind, due: u64, expected: u64) -> bool
+    ensures { λ r. ⌜ r ≡ suitsBy kind due expected ⌝ }
 {
-    let measure = kind.measure;
-    if measure.is_cost() {
-        return costs[s];
+    let bound = kind.bound;
+    if bound.is_at_least() {
+        return due <= expected;
     }
-    0
+    expected <= due
 }
 
-// An action suits and, where 24 is asked, falls. The one routine that judges an action.
+// The action of these branches suits and, where 24 is asked, falls. The one routine that judges an action.
 fn judge_action(
     kind: Kind,
     asked: bool,
-    d: u32,
-    c: u32,
-    marks: &[u8],
-    action_starts: &[u32],
-    branch_starts: &[u32],
+    state: State,
+    lo: usize,
+    hi: usize,
     destinations: &[u32],
     weights: &[u32],
-    costs: &[u32],
     claims: &[u64],
     ranks: &[u32],
-    s: usize,
-    a: usize,
 ) -> bool
-    requires ready { ⌜ Ready kind (modelOf d (now marks) (now «action_starts») (now «branch_starts») (now destinations) (now weights)) (claimOf c (now costs) (now claims) (now ranks)) ⌝ }
-    requires state { ⌜ s < length (now marks) ⌝ }
-    requires asking { ⌜ (asked ≡ true → isAtLeast (kind .bound) ≡ true) ⌝ }
-    requires action { ⌜ a + 1 < length (now «branch_starts») ⌝ }
-    ensures { λ r. ⌜ r ≡ keeps kind (modelOf d (now (marks .entry)) (now («action_starts» .entry)) (now («branch_starts» .entry)) (now (destinations .entry)) (now (weights .entry))) (claimOf c (now (costs .entry)) (now (claims .entry)) (now (ranks .entry))) s asked a ⌝ }
+    requires { ⌜ Standing kind state ⌝ }
+    requires { ⌜ Weighable (now destinations) (now weights) (now claims) lo hi ⌝ }
+    requires { ⌜ (asked ≡ true → length (now ranks) ≡ length (now claims)) ⌝ }
+    ensures { λ r. ⌜ r ≡ keepsOver kind asked state (now (destinations .entry)) (now (weights .entry))
+        (now (claims .entry)) (now (ranks .entry)) lo hi ⌝ }
 {
-    let lo = branch_starts[a] as usize;
-    let hi = branch_starts[a + 1] as usize;
-    let scale = d as u64;
-    let due = scale * claims[s];
-    let spent = scale * (state_cost(kind, costs, s) as u64);
+    let scale = state.scale as u64;
+    let due = scale * state.claim;
+    let spent = scale * (state.cost as u64);
     if asked {
-        let x = sweep(lo, hi, destinations, weights, claims, ranks);
-        if ranks[s] <= x.least {
+        let swept = sweep(lo, hi, destinations, weights, claims, ranks);
+        if state.rank <= swept.least {
             return false;
         }
-        return due <= x.sum + spent;
+        return suits(kind, due, swept.sum + spent);
     }
-    let sum = weighted(lo, hi, destinations, weights, claims) + spent;
-    let bound = kind.bound;
-    if bound.is_at_least() {
-        return due <= sum;
-    }
-    sum <= due
+    suits(
+        kind,
+        due,
+        weighted(lo, hi, destinations, weights, claims) + spent,
+    )
 }
 
-fn agree(a: bool, b: bool) -> bool
+pub fn agree(a: bool, b: bool) -> bool
     ensures { λ r. ⌜ r ≡ Bool·beq a b ⌝ }
 {
     if a {
@@ -134,47 +138,41 @@ pub fn lowest(
     kind: Kind,
     wanted: bool,
     asked: bool,
-    d: u32,
-    c: u32,
-    marks: &[u8],
-    action_starts: &[u32],
+    state: State,
     branch_starts: &[u32],
     destinations: &[u32],
     weights: &[u32],
-    costs: &[u32],
     claims: &[u64],
     ranks: &[u32],
-    s: usize,
-) -> usize
-    requires ready { ⌜ Ready kind (modelOf d (now marks) (now «action_starts») (now «branch_starts») (now destinations) (now weights)) (claimOf c (now costs) (now claims) (now ranks)) ⌝ }
-    requires state { ⌜ s < length (now marks) ⌝ }
-    requires asking { ⌜ (asked ≡ true → isAtLeast (kind .bound) ≡ true) ⌝ }
-    ensures { λ r. ⌜ r ≡ lowestOf kind (modelOf d (now (marks .entry)) (now («action_starts» .entry)) (now («branch_starts» .entry)) (now (destinations .entry)) (now (weights .entry))) (claimOf c (now (costs .entry)) (now (claims .entry)) (now (ranks .entry))) s wanted asked ⌝ }
-    ensures below { λ r. ⌜ r ≤ getD (now («action_starts» .entry)) (s + 1) 0 ⌝ }
+) -> u32
+    requires { let y = rowsOf (now «branch_starts») (now destinations) (now weights) (now claims) (now ranks) in
+        ⌜ Walkable kind state y ⌝ }
+    requires { ⌜ (asked ≡ true → isAtLeast (kind .bound) ≡ true) ⌝ }
+    ensures { λ r.
+        let y = rowsOf (now («branch_starts» .entry)) (now (destinations .entry)) (now (weights .entry)) (now (claims .entry))
+        (now (ranks .entry)) in
+        ⌜ r ≡ lowestOf kind wanted asked state y ⌝ }
 {
-    let hi = action_starts[s + 1] as usize;
-    let mut a = action_starts[s] as usize;
-    while a < hi {
+    let end = state.end;
+    let mut a = state.first;
+    while a < end {
+        let lo = branch_starts[a as usize] as usize;
+        let hi = branch_starts[a as usize + 1] as usize;
         let keeps = judge_action(
             kind,
             asked,
-            d,
-            c,
-            marks,
-            action_starts,
-            branch_starts,
+            state,
+            lo,
+            hi,
             destinations,
             weights,
-            costs,
             claims,
             ranks,
-            s,
-            a,
         );
         if agree(keeps, wanted) {
             return a;
         }
         a += 1;
     }
-    hi
+    end
 }

@@ -5,7 +5,8 @@ use Prim.Native.Nat.{ℕ, _-_, _*_, _^_, _≤_}
 use native.Mathlib.Nat.{mul-one, one-mul}
 use native.Mathlib.Omega.{arith}
 use Rattle.walk.specs.Fold.{sum}
-use Rattle.model.specs.Refusals.{sizeTests, weightScaleTest, claimScaleTest, statesTest, modelLengths, claimLengths, lengthTest, rowTests, startsTest, startRight, marksTest, walkTest, actionTest, rangeTests, costsTest, claimsTest, ranksTest}
+use Rattle.model.specs.Refusals.{sizeTests, weightScaleTest, claimScaleTest, statesTest, modelLengths, claimLengths, lengthTest}
+use Rattle.model.specs.Refusals.{rowTests, startsTest, startRight, marksTest, walkTest, actionTest, rangeTests, costsTest, claimsTest, ranksTest}
 use Rattle.model.specs.Conditions.{condition21, condition22, condition23, condition24}
 use Rattle.model.specs.declared.answers.Verdict.the-variants.{Accepted}
 use Rattle.model.specs.Kinds.{kindOf}

@@ -2,7 +2,8 @@
 -- Assumes nothing.
 use mathlib.Core.Path.{_≡_, refl}
 use mathlib.Core.List.{map}
-use Rattle.model.specs.Refusals.{sizeTests, weightScaleTest, claimScaleTest, statesTest, modelLengths, claimLengths, lengthTest, rowTests, startsTest, startRight, marksTest, walkTest, actionTest, rangeTests, costsTest, claimsTest, ranksTest}
+use Rattle.model.specs.Refusals.{sizeTests, weightScaleTest, claimScaleTest, statesTest, modelLengths, claimLengths, lengthTest}
+use Rattle.model.specs.Refusals.{rowTests, startsTest, startRight, marksTest, walkTest, actionTest, rangeTests, costsTest, claimsTest, ranksTest}
 use Rattle.model.specs.Conditions.{condition21, condition22, condition23, condition24}
 use Rattle.model.specs.Checked.{answerOf, choicesOf}
 use Rattle.cases.specs.Worked.{Case, proved}

@@ -26,7 +26,9 @@ module _ (o : Outcome) (file : List ℕ) (t u : Tables) (w : ReadInto o file t u
   one i x y p = rw (p, e) (cut-read h i file y)
 
   pub model-read : modelCut h u ≡ modelIn h file
-  model-read = λ j. modelOf (h .d) (one 1 _ _ (w .marks) j) (one 2 _ _ (w .actionStarts) j) (one 3 _ _ (w .branchStarts) j) (one 4 _ _ (w .destinations) j) (one 5 _ _ (w .weights) j)
+  model-read =
+      λ j. modelOf (h .d) (one 1 _ _ (w .marks) j) (one 2 _ _ (w .actionStarts) j) (one 3 _ _ (w .branchStarts) j)
+      (one 4 _ _ (w .destinations) j) (one 5 _ _ (w .weights) j)
 
   pub claim-read : claimCut h u ≡ claimIn h file
   claim-read = λ j. claimOf (h .c) (one 6 _ _ (w .costs) j) (one 7 _ _ (w .claims) j) (one 8 _ _ (w .ranks) j)

@@ -7,16 +7,16 @@ use native.Mathlib.Omega.{arith}
 use lib.Dec.{leb, eqb}
 use lib.ListN.{length, getD}
 use borrow.Author.Tests.{leb-true, eqb-true}
+use Rattle.model.specs.declared.limits.Lengths.{Lengths}
 use Rattle.model.specs.Limits.{mostStates, mostActions, mostBranches}
 use Rattle.model.specs.Kinds.{isKind}
 use Rattle.wire.specs.Blocks.{Block, size, place, block, blockOf, overwritten}
 use Rattle.certfile.specs.declared.Header.{Header}
-use Rattle.certfile.specs.declared.layout.Lengths.{Lengths}
 use Rattle.certfile.specs.declared.Outcome.{Outcome}
 use Rattle.certfile.specs.declared.Outcome.the-variants.{Read, Refused}
 use Rattle.certfile.specs.File.{headerOf, announced, blocks, roomy, countsRight, lengthRight, lengthFieldRight, versionRight, outcomeOf, tableOf}
 use Rattle.certfile.specs.Layout.{tablePlace, countsOf, placesOf}
-use Rattle.certfile.specs.Tables.{Tables, lent, ReadInto}
+use Rattle.certfile.specs.Tables.{Tables, lent, Roomy, ReadInto}
 use Rattle.certfile.proofs.Placed.{block-within}
 use Rattle.certfile.proofs.Judged.{next, from-34, from-33, from-1, from-32, judged, both-true}
 
@@ -44,7 +44,8 @@ all-roomy h l e =
     (both-true (leb (h .n) mostStates) (leb (h .m) mostActions && (leb (h .b) mostBranches && roomy (announced h) l)) e .1) .1) .1
 
 -- a table lies within a file whose length is right
-inside : (h : Header) (file : List ℕ) → lengthRight h file ≡ true → (i : ℕ) → tablePlace h i + block (announced h) i .count * block (announced h) i .width ≤ length file
+inside : (h : Header) (file : List ℕ) → lengthRight h file ≡ true → (i : ℕ)
+    → tablePlace h i + block (announced h) i .count * block (announced h) i .width ≤ length file
 unfolding lengthRight tablePlace
 inside h file e i = omega (arith, eqb-true (length file) (size (blocks h)) e, block-within (announced h) i)
 
@@ -79,8 +80,8 @@ module _ (l file : List ℕ) (h : Header) where
         long = subst (λ (x : Header). lengthRight x file ≡ true) g (f .0);
       }
 
-  pub ready : outcomeOf l file ≡ Read h → (i : ℕ) → (tablePlace h i + block (announced h) i .count * block (announced h) i .width ≤ length file) × (block (announced h) i .count ≤ getD l i 0)
-  ready e i = (inside h file (passed e .long) i, room-at (announced h) l (all-roomy h l (passed e .counts)) i)
+  has-room : outcomeOf l file ≡ Read h → Roomy h l
+  has-room e = room-at (announced h) l (all-roomy h l (passed e .counts))
 
 -- what each fill asks, at a table's place and number of entries
 pub record Rooms (place count : Lengths) (file : List ℕ) (t : Tables) : Type 0 where
@@ -93,12 +94,24 @@ pub record Rooms (place count : Lengths) (file : List ℕ) (t : Tables) : Type 0
   pub claims : (place .claims + count .claims * 8 ≤ length file) × (count .claims ≤ length (t .claims))
   pub ranks : (place .ranks + count .ranks * 4 ≤ length file) × (count .ranks ≤ length (t .ranks))
 
-module _ (h : Header) (place count : Lengths) (file : List ℕ) (t : Tables) (p : place ≡ placesOf h) (q : count ≡ countsOf h) (e : outcomeOf (lent t) file ≡ Read h) where
+module _ (h : Header) (place count : Lengths) (file : List ℕ) (t : Tables) (p : place ≡ placesOf h) (q : count ≡ countsOf h)
+    (e : outcomeOf (lent t) file ≡ Read h) where
   pub rooms : Rooms place count file t
   unfolding block announced
   rooms =
-      let at = ready (lent t) file h e in
-      rw (p, q) (record { marks = at 0; actionStarts = at 1; branchStarts = at 2; destinations = at 3; weights = at 4; costs = at 5; claims = at 6; ranks = at 7 })
+      let lies = inside h file (passed (lent t) file h e .long) in
+      let fits = has-room (lent t) file h e in
+      rw (p, q)
+      (record {
+        marks = (lies 0, fits 0);
+        actionStarts = (lies 1, fits 1);
+        branchStarts = (lies 2, fits 2);
+        destinations = (lies 3, fits 3);
+        weights = (lies 4, fits 4);
+        costs = (lies 5, fits 5);
+        claims = (lies 6, fits 6);
+        ranks = (lies 7, fits 7);
+      })
 
   -- and what the fills leave
   pub all-filled : (u : Tables)
@@ -125,8 +138,34 @@ module _ (h : Header) (place count : Lengths) (file : List ℕ) (t : Tables) (p 
         ranks = e8 ∙ rw (p, q);
       }
 
+-- tables that a file was read into have room for its blocks
+pub lengths-kept : (t u : Tables)
+    → length (u .marks) ≡ length (t .marks)
+    → length (u .actionStarts) ≡ length (t .actionStarts)
+    → length (u .branchStarts) ≡ length (t .branchStarts)
+    → length (u .destinations) ≡ length (t .destinations)
+    → length (u .weights) ≡ length (t .weights)
+    → length (u .costs) ≡ length (t .costs)
+    → length (u .claims) ≡ length (t .claims)
+    → length (u .ranks) ≡ length (t .ranks)
+    → lent u ≡ lent t
+lengths-kept t u a b c d e f g h = rw (a, b, c, d, e, f, g, h)
+
+pub read-roomy : (o : Outcome) (file : List ℕ) (t u : Tables) → ReadInto o file t u → (h : Header) → o ≡ Read h → lent u ≡ lent t → Roomy h (lent u)
+read-roomy o file t u w h e kept = subst (λ (l : List ℕ). Roomy h l) (sym kept) (has-room (lent t) file h (sym (w .answer) ∙ e))
+
 -- a refusal leaves each table as it was
 pub untouched : (number place : ℕ) (file : List ℕ) (t : Tables) → Refused number place ≡ outcomeOf (lent t) file → ReadInto (Refused number place) file t t
 unfolding tableOf
 untouched number place file t e =
-    record { answer = e; marks = refl; actionStarts = refl; branchStarts = refl; destinations = refl; weights = refl; costs = refl; claims = refl; ranks = refl }
+    record {
+      answer = e;
+      marks = refl;
+      actionStarts = refl;
+      branchStarts = refl;
+      destinations = refl;
+      weights = refl;
+      costs = refl;
+      claims = refl;
+      ranks = refl;
+    }

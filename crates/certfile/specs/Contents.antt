@@ -26,7 +26,13 @@ unfolding block announced
 cut h i table = take (block (announced h) (i - 1) .count) table
 
 abbrev pub modelCut : Header → Tables → Model
-modelCut h t = modelOf (h .d) (cut h 1 (t .marks)) (cut h 2 (t .actionStarts)) (cut h 3 (t .branchStarts)) (cut h 4 (t .destinations)) (cut h 5 (t .weights))
+modelCut h t =
+    modelOf (h .d)
+    (cut h 1 (t .marks))
+    (cut h 2 (t .actionStarts))
+    (cut h 3 (t .branchStarts))
+    (cut h 4 (t .destinations))
+    (cut h 5 (t .weights))
 
 abbrev pub claimCut : Header → Tables → Claim
 claimCut h t = claimOf (h .c) (cut h 6 (t .costs)) (cut h 7 (t .claims)) (cut h 8 (t .ranks))

@@ -1,12 +1,12 @@
--- A number for each of the tables 1 to 8: the entries that a header announces, the places of the tables, the lengths that are lent.
+-- A number for each table: the entries that a header announces, the places of the tables, the lengths that are lent. A file has eight.
 use Prim.Native.Nat.{ℕ, _+_, _≤_}
 use mathlib.Core.List.{List, [], _∷_}
+use Rattle.model.specs.declared.limits.Lengths.{Lengths}
 use Rattle.wire.specs.Blocks.{size, place, block}
 use Rattle.certfile.specs.declared.Header.{Header}
-use Rattle.certfile.specs.declared.layout.Lengths.{Lengths}
 use Rattle.certfile.specs.File.{headerBlocks, announced}
 
--- one number for each table, by its place among the eight, counted from 0
+-- one number for each table, counted from 0: the ninth, the choice list, is not there, and has the place where the file ends
 abbrev pub forEach : (ℕ → ℕ) → Lengths
 forEach f =
     record {
@@ -18,8 +18,10 @@ forEach f =
       costs = f 5;
       claims = f 6;
       ranks = f 7;
+      choices = f 8;
     }
 
+-- those of the eight tables of a file
 abbrev pub listed : Lengths → List ℕ
 listed x =
     x .marks
@@ -32,7 +34,7 @@ listed x =
     ∷ x .ranks
     ∷ []
 
--- none is over 2^32, so no sum of them wraps
+-- none of a file's tables is over 2^32, so no sum of them wraps
 pub record Small (x : Lengths) : Type 0 where
   pub marks : x .marks ≤ 4294967296
   pub actionStarts : x .«action_starts» ≤ 4294967296

@@ -1,10 +1,12 @@
--- The eight lent tables, and what each holds after a file was read.
-use Prim.Native.Nat.{ℕ}
+-- The eight lent tables, the room that they have, and what each holds after a file was read.
+use Prim.Native.Nat.{ℕ, _≤_}
 use mathlib.Core.Path.{_≡_}
 use mathlib.Core.List.{List, [], _∷_}
-use lib.ListN.{length}
+use lib.ListN.{length, getD}
+use Rattle.wire.specs.Blocks.{block}
+use Rattle.certfile.specs.declared.Header.{Header}
 use Rattle.certfile.specs.declared.Outcome.{Outcome}
-use Rattle.certfile.specs.File.{outcomeOf, tableOf}
+use Rattle.certfile.specs.File.{announced, outcomeOf, tableOf}
 
 pub record Tables : Type 0 where
   pub marks : List ℕ
@@ -41,6 +43,10 @@ lent t =
     ∷ length (t .claims)
     ∷ length (t .ranks)
     ∷ []
+
+-- each lent table has room for its block
+abbrev pub Roomy : Header → List ℕ → Type 0
+Roomy h lent = (i : ℕ) → block (announced h) i .count ≤ getD lent i 0
 
 -- what was answered, and each table by its number, after a file was read
 pub record ReadInto (r : Outcome) (file : List ℕ) (before after : Tables) : Type 0 where

@@ -13,8 +13,8 @@ use crate::FileRefusal as Refusal;
 use crate::Header;
 use crate::Outcome;
 use crate::layout;
-use crate::layout::Lengths;
 use model::Known;
+use model::Lengths;
 use model::Model;
 use wire::Width;
 

@@ -9,19 +9,8 @@ ghost use Rattle.certfile.specs.File.{headerBlocks, headerOf, blocks};
 ghost use Rattle.certfile.specs.Layout.{Small, countsOf, placesOf};
 use crate::Header;
 use model::Known;
+use model::Lengths;
 use wire::Width;
-
-// A number for each of the tables 1 to 8: its entries, or the place of its first.
-pub struct Lengths {
-    pub marks: usize,
-    pub action_starts: usize,
-    pub branch_starts: usize,
-    pub destinations: usize,
-    pub weights: usize,
-    pub costs: usize,
-    pub claims: usize,
-    pub ranks: usize,
-}
 
 // The tables that not every kind has.
 struct Optional {
@@ -52,6 +41,7 @@ fn entries_of(has: bool, n: usize) -> usize
     if has { n } else { 0 }
 }
 
+// The entries of each table: a file holds no choice list.
 pub fn counts_of(h: Header) -> Lengths
     ensures counts { λ r. ⌜ r ≡ countsOf h ⌝ }
     ensures small { λ r. ⌜ Small r ⌝ }
@@ -69,9 +59,11 @@ pub fn counts_of(h: Header) -> Lengths
         costs: entries_of(has.costs, n),
         claims: n,
         ranks: entries_of(has.ranks, n),
+        choices: 0,
     }
 }
 
+// The place of each table's first entry: for the choice list, the place where the file ends.
 pub fn places_of(h: Header) -> Lengths
     ensures { λ r. ⌜ r ≡ placesOf h ⌝ }
 {
@@ -84,6 +76,7 @@ pub fn places_of(h: Header) -> Lengths
     let costs = weights + count.weights * Width::WORD;
     let claims = costs + count.costs * Width::WORD;
     let ranks = claims + count.claims * Width::LONG;
+    let choices = ranks + count.ranks * Width::WORD;
     Lengths {
         marks,
         action_starts,
@@ -93,6 +86,7 @@ pub fn places_of(h: Header) -> Lengths
         costs,
         claims,
         ranks,
+        choices,
     }
 }
 
@@ -100,9 +94,7 @@ pub fn places_of(h: Header) -> Lengths
 pub fn length_of(h: Header) -> usize
     ensures { λ r. ⌜ r ≡ size (blocks h) ⌝ }
 {
-    let count = counts_of(h);
-    let place = places_of(h);
-    place.ranks + count.ranks * Width::WORD
+    places_of(h).choices
 }
 
 // What the header of a file says.

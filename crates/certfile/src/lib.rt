@@ -2,7 +2,6 @@
 mod judge;
 mod layout;
 
-pub use layout::Lengths;
 pub use layout::counts_of;
 pub use layout::length_of;
 ghost use mathlib.Core.Path.{_≡_};
@@ -10,6 +9,7 @@ ghost use Rattle.certfile.specs.File.{outcomeOf};
 ghost use Rattle.certfile.specs.Layout.{listed};
 ghost use Rattle.certfile.specs.Tables.{tables, lent, ReadInto};
 ghost use Rattle.certfile.specs.declared.Outcome.the-variants.{Read};
+use model::Lengths;
 
 // What a file says before its tables.
 pub struct Header {
@@ -76,10 +76,15 @@ fn fill(
     claims: &mut [u64],
     ranks: &mut [u32],
 )
-    requires { ⌜ outcomeOf (lent (tables (now marks) (now «action_starts») (now «branch_starts») (now destinations) (now weights) (now costs) (now claims) (now ranks))) (now file) ≡ Read h ⌝ }
-    ensures { λ _. ⌜ ReadInto (Read h) (now (file .entry))
-        (tables (now (marks .entry)) (now («action_starts» .entry)) (now («branch_starts» .entry)) (now (destinations .entry)) (now (weights .entry)) (now (costs .entry)) (now (claims .entry)) (now (ranks .entry)))
-        (tables (now (marks .exit)) (now («action_starts» .exit)) (now («branch_starts» .exit)) (now (destinations .exit)) (now (weights .exit)) (now (costs .exit)) (now (claims .exit)) (now (ranks .exit))) ⌝ }
+    requires { let t = tables (now marks) (now «action_starts») (now «branch_starts») (now destinations)
+        (now weights) (now costs) (now claims) (now ranks) in
+        ⌜ outcomeOf (lent t) (now file) ≡ Read h ⌝ }
+    ensures { λ _.
+        let before = tables (now (marks .entry)) (now («action_starts» .entry)) (now («branch_starts» .entry))
+        (now (destinations .entry)) (now (weights .entry)) (now (costs .entry)) (now (claims .entry)) (now (ranks .entry)) in
+        let after = tables (now (marks .exit)) (now («action_starts» .exit)) (now («branch_starts» .exit))
+        (now (destinations .exit)) (now (weights .exit)) (now (costs .exit)) (now (claims .exit)) (now (ranks .exit)) in
+        ⌜ ReadInto (Read h) (now (file .entry)) before after ⌝ }
 {
     let count = layout::counts_of(h);
     let place = layout::places_of(h);
@@ -122,9 +127,12 @@ pub fn read(
     claims: &mut [u64],
     ranks: &mut [u32],
 ) -> Outcome
-    ensures { λ r. ⌜ ReadInto r (now (file .entry))
-        (tables (now (marks .entry)) (now («action_starts» .entry)) (now («branch_starts» .entry)) (now (destinations .entry)) (now (weights .entry)) (now (costs .entry)) (now (claims .entry)) (now (ranks .entry)))
-        (tables (now (marks .exit)) (now («action_starts» .exit)) (now («branch_starts» .exit)) (now (destinations .exit)) (now (weights .exit)) (now (costs .exit)) (now (claims .exit)) (now (ranks .exit))) ⌝ }
+    ensures { λ r.
+        let before = tables (now (marks .entry)) (now («action_starts» .entry)) (now («branch_starts» .entry))
+        (now (destinations .entry)) (now (weights .entry)) (now (costs .entry)) (now (claims .entry)) (now (ranks .entry)) in
+        let after = tables (now (marks .exit)) (now («action_starts» .exit)) (now («branch_starts» .exit))
+        (now (destinations .exit)) (now (weights .exit)) (now (costs .exit)) (now (claims .exit)) (now (ranks .exit)) in
+        ⌜ ReadInto r (now (file .entry)) before after ⌝ }
 {
     let room = Lengths {
         marks: marks.len(),
@@ -135,6 +143,7 @@ pub fn read(
         costs: costs.len(),
         claims: claims.len(),
         ranks: ranks.len(),
+        choices: 0,
     };
     let outcome = judge::judge(file, room);
     let Outcome::Read(h) = outcome else {

@@ -1,5 +1,5 @@
 -- The whole check, put together from its parts. Assumes nothing.
-use mathlib.Core.Path.{_≡_, refl, sym, ap, fun-ext, _∙_}
+use mathlib.Core.Path.{_≡_, refl, sym, ap, subst, fun-ext, _∙_}
 use mathlib.Core.Bool.{Bool, true, false, cond, not, _&&_}
 use mathlib.Core.List.{List, [], _∷_, _++_}
 use Prim.Native.Nat.{ℕ, _<_, _^_, zero-le}
@@ -20,14 +20,14 @@ use Rattle.model.specs.Kinds.{isSome, isKind, kindOf, knownAs, Columns}
 use Rattle.model.specs.Tables.{Model, Claim, states}
 use Rattle.model.specs.Answers.{pass, then, tried, require}
 use Rattle.model.specs.Refusals.{entries, lengthsOf, kindTest, sizesOf, sizeTests, rowTests, rangesOf, rangeTests, tests}
-use Rattle.model.specs.WellFormed.{Sized}
+use Rattle.model.specs.WellFormed.{Sized, WellFormed}
 use Rattle.model.specs.Conditions.{judged}
 use Rattle.model.specs.Checked.{accepts, greatestRank, conditions, verdictOf, refusalOf, answerOf, choice, chosenOf, choicesOf}
 use Rattle.model.proofs.Tried.{tried-append, tried-all, then-passed, then-stopped, then-assoc, each-all}
 use Rattle.model.proofs.Formed.{entries-most, sized, formed}
 use Rattle.model.proofs.Known.{named, unnamed}
 use Rattle.rows.specs.Fitting.{Fitting}
-use Rattle.actions.specs.Ready.{Ready}
+use Rattle.conditions.specs.Ready.{Ready}
 use Rattle.conditions.specs.Judging.{picked, broken, roomOf}
 use Rattle.soundness.proofs.Demand3.{demand3}
 use Rattle.checker.specs.Promise.{Checked}
@@ -89,43 +89,34 @@ module _ (k : Kind) (t : Model) (u : Claim) (chosen : ℕ) where
   ranges-left p q = sym (apart ∙ then-passed sizes (then rows ranges) p ∙ then-passed rows ranges q)
 
 module _ (k : Kind) (t : Model) (u : Claim) (choices : List ℕ) where
+  -- refusals 2 to 14
+  abbrev refusal : Verdict
+  refusal = tried (tests k t u (length choices)) pass
+
+  split : verdictOf k t u choices ≡ then refusal (conditions k t u)
+  unfolding verdictOf
+  split = tried-then (tests k t u (length choices)) (conditions k t u)
+
   -- the verdict, by whether a refusal stands
-  pub refused : accepts (tried (tests k t u (length choices)) pass) ≡ false → tried (tests k t u (length choices)) pass ≡ verdictOf k t u choices
-  unfolding verdictOf
-  refused h = sym (tried-then (tests k t u (length choices)) (conditions k t u) ∙ then-stopped (tried (tests k t u (length choices)) pass) (conditions k t u) h)
+  pub refused : accepts refusal ≡ false → refusal ≡ verdictOf k t u choices
+  refused h = sym (split ∙ then-stopped refusal (conditions k t u) h)
 
-  judged-on : T (accepts (tried (tests k t u (length choices)) pass)) → conditions k t u ≡ verdictOf k t u choices
-  unfolding verdictOf
-  judged-on h = sym (tried-then (tests k t u (length choices)) (conditions k t u) ∙ then-passed (tried (tests k t u (length choices)) pass) (conditions k t u) h)
+  judged-on : T (accepts refusal) → conditions k t u ≡ verdictOf k t u choices
+  judged-on h = sym (split ∙ then-passed refusal (conditions k t u) h)
 
-  pub judged-kept : T (accepts (tried (tests k t u (length choices)) pass)) → (v : Verdict) (after : List ℕ) → v ≡ conditions k t u → after
+  pub judged-kept : T (accepts refusal) → (v : Verdict) (after : List ℕ) → v ≡ conditions k t u → after
       ≡ chosenOf k t u choices (conditions k t u)
       → (v ≡ verdictOf k t u choices) × (after ≡ chosenOf k t u choices (verdictOf k t u choices))
   judged-kept h v after p q = let e = judged-on h in (p ∙ e, q ∙ ap (chosenOf k t u choices) e)
 
-  pub ready : Columns k → T (accepts (tried (tests k t u (length choices)) pass)) → Ready k t u
-  ready col h =
-      let w = formed k t u (length choices) (tried-all (tests k t u (length choices)) pass h) in
-      let s = w .sized in
-      record {
-        columns = col;
-        d-most = s .d-most;
-        c-most = s .c-most;
-        n-most = s .n-most;
-        table2 = s .table2;
-        table3-least = s .table3-least;
-        table3-most = s .table3-most;
-        table4 = s .table4;
-        table5 = s .table5;
-        table6 = s .table6;
-        table7 = s .table7;
-        table8 = s .table8;
-        counted = w .counted;
-        in-range = w .in-range;
-      }
+  well : T (accepts refusal) → WellFormed k t u (length choices)
+  well h = formed k t u (length choices) (tried-all (tests k t u (length choices)) pass h)
 
-  pub choices-long : T (accepts (tried (tests k t u (length choices)) pass)) → length choices ≡ entries (k .choices) (states t)
-  choices-long h = formed k t u (length choices) (tried-all (tests k t u (length choices)) pass h) .sized .table9
+  pub choices-long : T (accepts refusal) → length choices ≡ entries (k .choices) (states t)
+  choices-long h = well h .sized .table9
+
+  pub ready : Columns k → T (accepts refusal) → Ready k t u
+  ready col h = record { columns = col; formed = subst (WellFormed k t u) (choices-long h) (well h) }
 
   -- the choice list, by the verdict
   pub unchosen : (v : Verdict) → accepts v ≡ false → choices ≡ chosenOf k t u choices v

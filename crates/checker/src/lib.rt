@@ -9,7 +9,7 @@ ghost use Rattle.model.specs.Answers.{pass, tried};
 ghost use Rattle.model.specs.Kinds.{Columns};
 ghost use Rattle.model.specs.Refusals.{entries, tests};
 ghost use Rattle.model.specs.Checked.{chosenOf, conditions, refusalOf, verdictOf};
-ghost use Rattle.actions.specs.Ready.{Ready};
+ghost use Rattle.conditions.specs.Ready.{Ready};
 ghost use Rattle.checker.specs.Promise.{Checked};
 use model::Answer;
 use model::Kind;
@@ -46,18 +46,22 @@ fn refusals(
     ranks: &[u32],
     chosen: usize,
 ) -> Verdict
-    ensures { λ r. ⌜ r ≡ tried (tests kind (modelOf d (now (marks .entry)) (now («action_starts» .entry)) (now («branch_starts» .entry)) (now (destinations .entry)) (now (weights .entry))) (claimOf c (now (costs .entry)) (now (claims .entry)) (now (ranks .entry))) chosen) pass ⌝ }
+    ensures { λ r.
+        let t = modelOf d (now (marks .entry)) (now («action_starts» .entry)) (now («branch_starts» .entry))
+        (now (destinations .entry)) (now (weights .entry)) in
+        let u = claimOf c (now (costs .entry)) (now (claims .entry)) (now (ranks .entry)) in
+        ⌜ r ≡ tried (tests kind t u chosen) pass ⌝ }
 {
     let lengths = Lengths {
-        table1: marks.len(),
-        table2: action_starts.len(),
-        table3: branch_starts.len(),
-        table4: destinations.len(),
-        table5: weights.len(),
-        table6: costs.len(),
-        table7: claims.len(),
-        table8: ranks.len(),
-        table9: chosen,
+        marks: marks.len(),
+        action_starts: action_starts.len(),
+        branch_starts: branch_starts.len(),
+        destinations: destinations.len(),
+        weights: weights.len(),
+        costs: costs.len(),
+        claims: claims.len(),
+        ranks: ranks.len(),
+        choices: chosen,
     };
     let v = sizes::sizes(kind, d, c, lengths);
     if !v.accepts() {
@@ -92,10 +96,15 @@ fn settle(
     ranks: &[u32],
     choices: &mut [u32],
 ) -> Verdict
-    requires ready { ⌜ Ready kind (modelOf d (now marks) (now «action_starts») (now «branch_starts») (now destinations) (now weights)) (claimOf c (now costs) (now claims) (now ranks)) ⌝ }
-    requires choices { ⌜ length (now choices) ≡ entries (kind .choices) (length (now marks)) ⌝ }
-    ensures verdict { λ r. ⌜ r ≡ conditions kind (modelOf d (now (marks .entry)) (now («action_starts» .entry)) (now («branch_starts» .entry)) (now (destinations .entry)) (now (weights .entry))) (claimOf c (now (costs .entry)) (now (claims .entry)) (now (ranks .entry))) ⌝ }
-    ensures choices { λ r. ⌜ now (choices .exit) ≡ chosenOf kind (modelOf d (now (marks .entry)) (now («action_starts» .entry)) (now («branch_starts» .entry)) (now (destinations .entry)) (now (weights .entry))) (claimOf c (now (costs .entry)) (now (claims .entry)) (now (ranks .entry))) (now (choices .entry)) (conditions kind (modelOf d (now (marks .entry)) (now («action_starts» .entry)) (now («branch_starts» .entry)) (now (destinations .entry)) (now (weights .entry))) (claimOf c (now (costs .entry)) (now (claims .entry)) (now (ranks .entry)))) ⌝ }
+    requires { let t = modelOf d (now marks) (now «action_starts») (now «branch_starts») (now destinations) (now weights) in
+        ⌜ Ready kind t (claimOf c (now costs) (now claims) (now ranks)) ⌝ }
+    requires { ⌜ length (now choices) ≡ entries (kind .choices) (length (now marks)) ⌝ }
+    ensures { λ r.
+        let t = modelOf d (now (marks .entry)) (now («action_starts» .entry)) (now («branch_starts» .entry))
+        (now (destinations .entry)) (now (weights .entry)) in
+        let u = claimOf c (now (costs .entry)) (now (claims .entry)) (now (ranks .entry)) in
+        let v = conditions kind t u in
+        ⌜ (r ≡ v) × (now (choices .exit) ≡ chosenOf kind t u (now (choices .entry)) v) ⌝ }
 {
     let mut gathered = [0u32; Model::MOST_STATES as usize];
     let room: &mut [u32] = &mut gathered;
@@ -134,9 +143,13 @@ fn check_kind(
     ranks: &[u32],
     choices: &mut [u32],
 ) -> Verdict
-    requires columns { ⌜ Columns kind ⌝ }
-    ensures verdict { λ r. ⌜ r ≡ verdictOf kind (modelOf d (now (marks .entry)) (now («action_starts» .entry)) (now («branch_starts» .entry)) (now (destinations .entry)) (now (weights .entry))) (claimOf c (now (costs .entry)) (now (claims .entry)) (now (ranks .entry))) (now (choices .entry)) ⌝ }
-    ensures choices { λ r. ⌜ now (choices .exit) ≡ chosenOf kind (modelOf d (now (marks .entry)) (now («action_starts» .entry)) (now («branch_starts» .entry)) (now (destinations .entry)) (now (weights .entry))) (claimOf c (now (costs .entry)) (now (claims .entry)) (now (ranks .entry))) (now (choices .entry)) (verdictOf kind (modelOf d (now (marks .entry)) (now («action_starts» .entry)) (now («branch_starts» .entry)) (now (destinations .entry)) (now (weights .entry))) (claimOf c (now (costs .entry)) (now (claims .entry)) (now (ranks .entry))) (now (choices .entry))) ⌝ }
+    requires { ⌜ Columns kind ⌝ }
+    ensures { λ r.
+        let t = modelOf d (now (marks .entry)) (now («action_starts» .entry)) (now («branch_starts» .entry))
+        (now (destinations .entry)) (now (weights .entry)) in
+        let u = claimOf c (now (costs .entry)) (now (claims .entry)) (now (ranks .entry)) in
+        let v = verdictOf kind t u (now (choices .entry)) in
+        ⌜ (r ≡ v) × (now (choices .exit) ≡ chosenOf kind t u (now (choices .entry)) v) ⌝ }
 {
     let v = refusals(
         kind,
@@ -187,7 +200,11 @@ pub fn check(
     ranks: &[u32],
     choices: &mut [u32],
 ) -> Answer
-    ensures { λ r. ⌜ Checked kind (modelOf d (now (marks .entry)) (now («action_starts» .entry)) (now («branch_starts» .entry)) (now (destinations .entry)) (now (weights .entry))) (claimOf c (now (costs .entry)) (now (claims .entry)) (now (ranks .entry))) (now (choices .entry)) r (now (choices .exit)) ⌝ }
+    ensures { λ r.
+        let t = modelOf d (now (marks .entry)) (now («action_starts» .entry)) (now («branch_starts» .entry))
+        (now (destinations .entry)) (now (weights .entry)) in
+        let u = claimOf c (now (costs .entry)) (now (claims .entry)) (now (ranks .entry)) in
+        ⌜ Checked kind t u (now (choices .entry)) r (now (choices .exit)) ⌝ }
 {
     match model::kind_of(kind) {
         Known::As(k) => Answer {
@@ -232,7 +249,11 @@ pub fn refuse(
     ranks: &[u32],
     chosen: usize,
 ) -> Verdict
-    ensures { λ r. ⌜ r ≡ refusalOf kind (modelOf d (now (marks .entry)) (now («action_starts» .entry)) (now («branch_starts» .entry)) (now (destinations .entry)) (now (weights .entry))) (claimOf c (now (costs .entry)) (now (claims .entry)) (now (ranks .entry))) chosen ⌝ }
+    ensures { λ r.
+        let t = modelOf d (now (marks .entry)) (now («action_starts» .entry)) (now («branch_starts» .entry))
+        (now (destinations .entry)) (now (weights .entry)) in
+        let u = claimOf c (now (costs .entry)) (now (claims .entry)) (now (ranks .entry)) in
+        ⌜ r ≡ refusalOf kind t u chosen ⌝ }
 {
     match model::kind_of(kind) {
         Known::As(k) => refusals(

@@ -43,38 +43,38 @@ fn entries_of(has: bool, n: usize) -> usize
 
 // What this says, unless it accepts: then refused 5 at the first of tables 2 to 5 whose length is wrong.
 fn model_lengths(v: Verdict, l: Lengths) -> Verdict
-    requires { ⌜ l .table1 < 2 ^ 63 ⌝ }
+    requires { ⌜ l .marks < 2 ^ 63 ⌝ }
     ensures { λ r. ⌜ r ≡ then v (tried (modelLengths l) pass) ⌝ }
 {
-    let n = l.table1;
-    let v = v.require(l.table2 == n + 1, Refusal::LENGTH, 2);
+    let n = l.marks;
+    let v = v.require(l.action_starts == n + 1, Refusal::LENGTH, 2);
     let v = v.require(
-        in_between(2, (Model::MOST_ACTIONS as usize) + 1, l.table3),
+        in_between(2, (Model::MOST_ACTIONS as usize) + 1, l.branch_starts),
         Refusal::LENGTH,
         3,
     );
     let v = v.require(
-        l.table4 <= Model::MOST_BRANCHES as usize,
+        l.destinations <= Model::MOST_BRANCHES as usize,
         Refusal::LENGTH,
         4,
     );
-    v.require(l.table5 == l.table4, Refusal::LENGTH, 5)
+    v.require(l.weights == l.destinations, Refusal::LENGTH, 5)
 }
 
 // The same of tables 6 to 9, by the kind.
 fn claim_lengths(v: Verdict, kind: Kind, l: Lengths) -> Verdict
     ensures { λ r. ⌜ r ≡ then v (tried (claimLengths kind l) pass) ⌝ }
 {
-    let n = l.table1;
-    let v = v.require(l.table6 == entries_of(kind.costs, n), Refusal::LENGTH, 6);
-    let v = v.require(l.table7 == n, Refusal::LENGTH, 7);
-    let v = v.require(l.table8 == entries_of(kind.ranks, n), Refusal::LENGTH, 8);
-    v.require(l.table9 == entries_of(kind.choices, n), Refusal::LENGTH, 9)
+    let n = l.marks;
+    let v = v.require(l.costs == entries_of(kind.costs, n), Refusal::LENGTH, 6);
+    let v = v.require(l.claims == n, Refusal::LENGTH, 7);
+    let v = v.require(l.ranks == entries_of(kind.ranks, n), Refusal::LENGTH, 8);
+    v.require(l.choices == entries_of(kind.choices, n), Refusal::LENGTH, 9)
 }
 
 // Refusals 2 to 5, in number order; accepted where none stands.
 pub(crate) fn sizes(kind: Kind, d: u32, c: u32, l: Lengths) -> Verdict
-    requires { ⌜ l .table1 < 2 ^ 63 ⌝ }
+    requires { ⌜ l .marks < 2 ^ 63 ⌝ }
     ensures { λ r. ⌜ r ≡ tried (sizesOf kind d c l) pass ⌝ }
 {
     let v = Verdict::Accepted { rank: 0 };
@@ -84,7 +84,7 @@ pub(crate) fn sizes(kind: Kind, d: u32, c: u32, l: Lengths) -> Verdict
         0,
     );
     let v = v.require(claim_scale_right(kind, c), Refusal::CLAIM_SCALE, 0);
-    let n = l.table1;
+    let n = l.marks;
     let v = v.require(
         in_between(1, Model::MOST_STATES as usize, n),
         Refusal::STATES,

@@ -1,2 +1,3 @@
 mod State
+mod Standing
 mod States

@@ -1,55 +1,22 @@
 // The fixed point conditions 21 to 24 and the choices, over tables that are well formed.
 ghost use mathlib.Core.Path.{_≡_};
-ghost use mathlib.Core.Bool.{true, false};
-ghost use Prim.Native.Nat.{_+_, _≤_, _<_};
-ghost use lib.Dec.{T};
-ghost use lib.ListN.{length};
-ghost use Rattle.model.specs.Kinds.{isSome};
-ghost use Rattle.model.specs.Tables.{modelOf, claimOf, target};
-ghost use Rattle.model.specs.Conditions.{targetAsks, condition23, asksFall, judged};
-ghost use Rattle.model.specs.Checked.{accepts, conditions};
-ghost use Rattle.actions.specs.Ready.{Ready};
-ghost use Rattle.conditions.specs.Judging.{picked, roomOf};
+ghost use mathlib.Core.Bool.{cond};
+ghost use Prim.Native.Nat.{_≤_};
+ghost use lib.ListN.{length, getD};
+ghost use Rattle.model.specs.Limits.{none};
+ghost use Rattle.model.specs.Tables.{modelOf, claimOf};
+ghost use Rattle.model.specs.Conditions.{ask, targetAsks, rankAsks, fallAsked};
+ghost use Rattle.model.specs.Checked.{conditions};
+ghost use Rattle.actions.specs.Judging.{rowsOf};
+ghost use Rattle.actions.specs.Ready.{Walkable};
+ghost use Rattle.conditions.specs.Judging.{verdict23, targetVerdict, openVerdict, openChoice, stateVerdict, stateChoice};
+ghost use Rattle.conditions.specs.Judging.{Judges, roomOf};
+ghost use Rattle.conditions.specs.Ready.{Ready};
+use actions::State;
 use model::Condition;
 use model::Kind;
 use model::Rank;
 use model::Verdict;
-
-// 23, "at least" only: a claim above 0 has a rank that is not none.
-fn rank_test(
-    kind: Kind,
-    d: u32,
-    c: u32,
-    marks: &[u8],
-    action_starts: &[u32],
-    branch_starts: &[u32],
-    destinations: &[u32],
-    weights: &[u32],
-    costs: &[u32],
-    claims: &[u64],
-    ranks: &[u32],
-    s: usize,
-) -> Verdict
-    requires ready { ⌜ Ready kind (modelOf d (now marks) (now «action_starts») (now «branch_starts») (now destinations) (now weights)) (claimOf c (now costs) (now claims) (now ranks)) ⌝ }
-    requires state { ⌜ s < length (now marks) ⌝ }
-    ensures { λ r. ⌜ r ≡ condition23 kind (claimOf c (now (costs .entry)) (now (claims .entry)) (now (ranks .entry))) s ⌝ }
-{
-    let bound = kind.bound;
-    if !bound.is_at_least() {
-        return Verdict::Accepted { rank: 0 };
-    }
-    if claims[s] == 0 {
-        return Verdict::Accepted { rank: 0 };
-    }
-    if ranks[s] != Rank::NONE {
-        return Verdict::Accepted { rank: 0 };
-    }
-    Verdict::Violated {
-        number: Condition::RANKED,
-        state: s as u32,
-        action: Rank::NONE,
-    }
-}
 
 // What 21 asks of a target's claim: C (arrival, at most), or 0 (cost, at least); other kinds ask nothing.
 fn target_claim(kind: Kind, c: u32, claim: u64) -> bool
@@ -69,172 +36,65 @@ fn target_claim(kind: Kind, c: u32, claim: u64) -> bool
     claim == c as u64
 }
 
-// 21 and 23 at a target.
-fn judge_target(
-    kind: Kind,
-    d: u32,
-    c: u32,
-    marks: &[u8],
-    action_starts: &[u32],
-    branch_starts: &[u32],
-    destinations: &[u32],
-    weights: &[u32],
-    costs: &[u32],
-    claims: &[u64],
-    ranks: &[u32],
-    s: usize,
-) -> Verdict
-    requires ready { ⌜ Ready kind (modelOf d (now marks) (now «action_starts») (now «branch_starts») (now destinations) (now weights)) (claimOf c (now costs) (now claims) (now ranks)) ⌝ }
-    requires state { ⌜ s < length (now marks) ⌝ }
-    requires target { ⌜ target (modelOf d (now marks) (now «action_starts») (now «branch_starts») (now destinations) (now weights)) s ≡ true ⌝ }
-    ensures { λ r. ⌜ r ≡ judged kind (modelOf d (now (marks .entry)) (now («action_starts» .entry)) (now («branch_starts» .entry)) (now (destinations .entry)) (now (weights .entry))) (claimOf c (now (costs .entry)) (now (claims .entry)) (now (ranks .entry))) s ⌝ }
-{
-    if !target_claim(kind, c, claims[s]) {
-        return Verdict::Violated {
-            number: Condition::TARGET,
-            state: s as u32,
-            action: Rank::NONE,
-        };
-    }
-    rank_test(
-        kind,
-        d,
-        c,
-        marks,
-        action_starts,
-        branch_starts,
-        destinations,
-        weights,
-        costs,
-        claims,
-        ranks,
-        s,
-    )
-}
-
-// 24 is asked at a non-target with a rank, "at least" only.
-fn fall_asked(
-    kind: Kind,
-    d: u32,
-    c: u32,
-    marks: &[u8],
-    action_starts: &[u32],
-    branch_starts: &[u32],
-    destinations: &[u32],
-    weights: &[u32],
-    costs: &[u32],
-    claims: &[u64],
-    ranks: &[u32],
-    s: usize,
-) -> bool
-    requires ready { ⌜ Ready kind (modelOf d (now marks) (now «action_starts») (now «branch_starts») (now destinations) (now weights)) (claimOf c (now costs) (now claims) (now ranks)) ⌝ }
-    requires state { ⌜ s < length (now marks) ⌝ }
-    requires open { ⌜ target (modelOf d (now marks) (now «action_starts») (now «branch_starts») (now destinations) (now weights)) s ≡ false ⌝ }
-    ensures { λ r. ⌜ r ≡ asksFall kind (modelOf d (now (marks .entry)) (now («action_starts» .entry)) (now («branch_starts» .entry)) (now (destinations .entry)) (now (weights .entry))) (claimOf c (now (costs .entry)) (now (claims .entry)) (now (ranks .entry))) s ⌝ }
+// What 23 asks, "at least" only: a claim above 0 has a rank that is not none.
+fn rank_right(kind: Kind, claim: u64, rank: u32) -> bool
+    ensures { λ r. ⌜ r ≡ rankAsks kind claim rank ⌝ }
 {
     let bound = kind.bound;
     if !bound.is_at_least() {
-        return false;
+        return true;
     }
-    ranks[s] != Rank::NONE
+    if claim == 0 {
+        return true;
+    }
+    rank != Rank::NONE
 }
 
-// 22 to 24 at a non-target, for every strategy. 22 comes first, so a second sweep looks for it where an action does not keep.
-fn judge_every(
-    kind: Kind,
-    d: u32,
-    c: u32,
-    marks: &[u8],
-    action_starts: &[u32],
-    branch_starts: &[u32],
-    destinations: &[u32],
-    weights: &[u32],
-    costs: &[u32],
-    claims: &[u64],
-    ranks: &[u32],
-    s: usize,
-) -> Verdict
-    requires ready { ⌜ Ready kind (modelOf d (now marks) (now «action_starts») (now «branch_starts») (now destinations) (now weights)) (claimOf c (now costs) (now claims) (now ranks)) ⌝ }
-    requires state { ⌜ s < length (now marks) ⌝ }
-    requires open { ⌜ target (modelOf d (now marks) (now «action_starts») (now «branch_starts») (now destinations) (now weights)) s ≡ false ⌝ }
-    requires every { ⌜ isSome (kind .who) ≡ false ⌝ }
-    ensures { λ r. ⌜ r ≡ judged kind (modelOf d (now (marks .entry)) (now («action_starts» .entry)) (now («branch_starts» .entry)) (now (destinations .entry)) (now (weights .entry))) (claimOf c (now (costs .entry)) (now (claims .entry)) (now (ranks .entry))) s ⌝ }
+// 24 is asked at a non-target with a rank, "at least" only.
+fn fall_asked(kind: Kind, rank: u32) -> bool
+    ensures { λ r. ⌜ r ≡ fallAsked kind rank ⌝ }
 {
-    let asked = fall_asked(
-        kind,
-        d,
-        c,
-        marks,
-        action_starts,
-        branch_starts,
-        destinations,
-        weights,
-        costs,
-        claims,
-        ranks,
-        s,
-    );
-    let end = action_starts[s + 1] as usize;
-    let broken = actions::lowest(
-        kind,
-        false,
-        asked,
-        d,
-        c,
-        marks,
-        action_starts,
-        branch_starts,
-        destinations,
-        weights,
-        costs,
-        claims,
-        ranks,
-        s,
-    );
-    if broken == end {
-        return rank_test(
-            kind,
-            d,
-            c,
-            marks,
-            action_starts,
-            branch_starts,
-            destinations,
-            weights,
-            costs,
-            claims,
-            ranks,
-            s,
-        );
+    let bound = kind.bound;
+    if bound.is_at_least() {
+        return rank != Rank::NONE;
     }
-    let unsuited = actions::lowest(
-        kind,
-        false,
-        false,
-        d,
-        c,
-        marks,
-        action_starts,
-        branch_starts,
-        destinations,
-        weights,
-        costs,
-        claims,
-        ranks,
-        s,
-    );
-    if unsuited == end {
-        return Verdict::Violated {
-            number: Condition::FALLS,
-            state: s as u32,
-            action: broken as u32,
-        };
+    false
+}
+
+// Violated with this number at this state and action, unless it is met.
+fn ask(met: bool, number: u32, place: u32, action: u32) -> Verdict
+    ensures { λ r. ⌜ r ≡ ask met number place action ⌝ }
+{
+    if met {
+        return Verdict::Accepted { rank: 0 };
     }
     Verdict::Violated {
-        number: Condition::SUITS,
-        state: s as u32,
-        action: unsuited as u32,
+        number,
+        state: place,
+        action,
     }
+}
+
+// 23.
+fn ranked(kind: Kind, state: State) -> Verdict
+    ensures { λ r. ⌜ r ≡ verdict23 kind state ⌝ }
+{
+    ask(
+        rank_right(kind, state.claim, state.rank),
+        Condition::RANKED,
+        state.place,
+        Rank::NONE,
+    )
+}
+
+// 21 and 23 at a target.
+fn judge_target(kind: Kind, c: u32, state: State) -> Verdict
+    ensures { λ r. ⌜ r ≡ targetVerdict kind c state ⌝ }
+{
+    if target_claim(kind, c, state.claim) {
+        return ranked(kind, state);
+    }
+    ask(false, Condition::TARGET, state.place, Rank::NONE)
 }
 
 // The verdict on one state, and its choice; none for "every" kinds and at targets.
@@ -243,113 +103,70 @@ pub struct Judged {
     pub choice: u32,
 }
 
-// 22 to 24 at a non-target, for some strategy, and the action chosen.
-fn judge_some(
+// This action where it is to be named, else none.
+fn named(is: bool, a: u32) -> u32
+    ensures { λ r. ⌜ r ≡ cond is a none ⌝ }
+{
+    if is { a } else { Rank::NONE }
+}
+
+// 22 to 24 at a non-target, and the action chosen. The lowest action that keeps what is asked is sought ("some"), or the lowest that
+// does not ("every"). 22 comes first, so where that breaks, a second search looks for it alone.
+fn judge_open(
     kind: Kind,
-    d: u32,
-    c: u32,
-    marks: &[u8],
-    action_starts: &[u32],
+    state: State,
     branch_starts: &[u32],
     destinations: &[u32],
     weights: &[u32],
-    costs: &[u32],
     claims: &[u64],
     ranks: &[u32],
-    s: usize,
 ) -> Judged
-    requires ready { ⌜ Ready kind (modelOf d (now marks) (now «action_starts») (now «branch_starts») (now destinations) (now weights)) (claimOf c (now costs) (now claims) (now ranks)) ⌝ }
-    requires state { ⌜ s < length (now marks) ⌝ }
-    requires open { ⌜ target (modelOf d (now marks) (now «action_starts») (now «branch_starts») (now destinations) (now weights)) s ≡ false ⌝ }
-    requires some { ⌜ isSome (kind .who) ≡ true ⌝ }
-    ensures verdict { λ r. ⌜ r .verdict ≡ judged kind (modelOf d (now (marks .entry)) (now («action_starts» .entry)) (now («branch_starts» .entry)) (now (destinations .entry)) (now (weights .entry))) (claimOf c (now (costs .entry)) (now (claims .entry)) (now (ranks .entry))) s ⌝ }
-    ensures choice { λ r. ⌜ (T (accepts (judged kind (modelOf d (now (marks .entry)) (now («action_starts» .entry)) (now («branch_starts» .entry)) (now (destinations .entry)) (now (weights .entry))) (claimOf c (now (costs .entry)) (now (claims .entry)) (now (ranks .entry))) s)) → r .choice ≡ picked kind (modelOf d (now (marks .entry)) (now («action_starts» .entry)) (now («branch_starts» .entry)) (now (destinations .entry)) (now (weights .entry))) (claimOf c (now (costs .entry)) (now (claims .entry)) (now (ranks .entry))) s) ⌝ }
+    requires { let y = rowsOf (now «branch_starts») (now destinations) (now weights) (now claims) (now ranks) in
+        ⌜ Walkable kind state y ⌝ }
+    ensures { λ r.
+        let y = rowsOf (now («branch_starts» .entry)) (now (destinations .entry)) (now (weights .entry)) (now (claims .entry))
+        (now (ranks .entry)) in
+        ⌜ Judges (openVerdict kind state y) (openChoice kind state y) r ⌝ }
 {
-    let asked = fall_asked(
+    let who = kind.who;
+    let some = who.is_some();
+    let asked = fall_asked(kind, state.rank);
+    let found = actions::lowest(
         kind,
-        d,
-        c,
-        marks,
-        action_starts,
-        branch_starts,
-        destinations,
-        weights,
-        costs,
-        claims,
-        ranks,
-        s,
-    );
-    let end = action_starts[s + 1] as usize;
-    let chosen = actions::lowest(
-        kind,
-        true,
+        some,
         asked,
-        d,
-        c,
-        marks,
-        action_starts,
+        state,
         branch_starts,
         destinations,
         weights,
-        costs,
         claims,
         ranks,
-        s,
     );
-    if chosen < end {
-        let verdict = rank_test(
-            kind,
-            d,
-            c,
-            marks,
-            action_starts,
-            branch_starts,
-            destinations,
-            weights,
-            costs,
-            claims,
-            ranks,
-            s,
-        );
+    if actions::agree(found < state.end, some) {
         return Judged {
-            verdict,
-            choice: chosen as u32,
+            verdict: ranked(kind, state),
+            choice: named(some, found),
         };
     }
-    let suited = actions::lowest(
+    let suits = actions::lowest(
         kind,
-        true,
+        some,
         false,
-        d,
-        c,
-        marks,
-        action_starts,
+        state,
         branch_starts,
         destinations,
         weights,
-        costs,
         claims,
         ranks,
-        s,
     );
-    if suited < end {
-        let verdict = Verdict::Violated {
-            number: Condition::FALLS,
-            state: s as u32,
-            action: Rank::NONE,
-        };
+    if actions::agree(suits < state.end, some) {
         return Judged {
-            verdict,
+            verdict: ask(false, Condition::FALLS, state.place, named(!some, found)),
             choice: Rank::NONE,
         };
     }
-    let verdict = Verdict::Violated {
-        number: Condition::SUITS,
-        state: s as u32,
-        action: Rank::NONE,
-    };
     Judged {
-        verdict,
+        verdict: ask(false, Condition::SUITS, state.place, named(!some, suits)),
         choice: Rank::NONE,
     }
 }
@@ -357,78 +174,46 @@ fn judge_some(
 // 21 to 24 at a state, and its choice.
 fn judge_state(
     kind: Kind,
-    d: u32,
     c: u32,
-    marks: &[u8],
-    action_starts: &[u32],
+    state: State,
     branch_starts: &[u32],
     destinations: &[u32],
     weights: &[u32],
-    costs: &[u32],
     claims: &[u64],
     ranks: &[u32],
-    s: usize,
 ) -> Judged
-    requires ready { ⌜ Ready kind (modelOf d (now marks) (now «action_starts») (now «branch_starts») (now destinations) (now weights)) (claimOf c (now costs) (now claims) (now ranks)) ⌝ }
-    requires state { ⌜ s < length (now marks) ⌝ }
-    ensures verdict { λ r. ⌜ r .verdict ≡ judged kind (modelOf d (now (marks .entry)) (now («action_starts» .entry)) (now («branch_starts» .entry)) (now (destinations .entry)) (now (weights .entry))) (claimOf c (now (costs .entry)) (now (claims .entry)) (now (ranks .entry))) s ⌝ }
-    ensures choice { λ r. ⌜ (T (accepts (judged kind (modelOf d (now (marks .entry)) (now («action_starts» .entry)) (now («branch_starts» .entry)) (now (destinations .entry)) (now (weights .entry))) (claimOf c (now (costs .entry)) (now (claims .entry)) (now (ranks .entry))) s)) → r .choice ≡ picked kind (modelOf d (now (marks .entry)) (now («action_starts» .entry)) (now («branch_starts» .entry)) (now (destinations .entry)) (now (weights .entry))) (claimOf c (now (costs .entry)) (now (claims .entry)) (now (ranks .entry))) s) ⌝ }
+    requires { let y = rowsOf (now «branch_starts») (now destinations) (now weights) (now claims) (now ranks) in
+        ⌜ Walkable kind state y ⌝ }
+    ensures { λ r.
+        let y = rowsOf (now («branch_starts» .entry)) (now (destinations .entry)) (now (weights .entry)) (now (claims .entry))
+        (now (ranks .entry)) in
+        ⌜ Judges (stateVerdict kind c state y) (stateChoice kind state y) r ⌝ }
 {
-    if marks[s] == 1 {
-        let verdict = judge_target(
-            kind,
-            d,
-            c,
-            marks,
-            action_starts,
-            branch_starts,
-            destinations,
-            weights,
-            costs,
-            claims,
-            ranks,
-            s,
-        );
+    if state.mark == 1 {
         return Judged {
-            verdict,
+            verdict: judge_target(kind, c, state),
             choice: Rank::NONE,
         };
     }
-    let who = kind.who;
-    if who.is_some() {
-        return judge_some(
-            kind,
-            d,
-            c,
-            marks,
-            action_starts,
-            branch_starts,
-            destinations,
-            weights,
-            costs,
-            claims,
-            ranks,
-            s,
-        );
-    }
-    let verdict = judge_every(
+    judge_open(
         kind,
-        d,
-        c,
-        marks,
-        action_starts,
+        state,
         branch_starts,
         destinations,
         weights,
-        costs,
         claims,
         ranks,
-        s,
-    );
-    Judged {
-        verdict,
-        choice: Rank::NONE,
+    )
+}
+
+// An entry of a table that not every kind has: 0 beyond its end.
+fn number_at(table: &[u32], s: usize) -> u32
+    ensures { λ r. ⌜ r ≡ getD (now (table .entry)) s 0 ⌝ }
+{
+    if s < table.len() {
+        return table[s];
     }
+    0
 }
 
 // The states in order: the first condition that breaks, or acceptance with R. The choices so far go into the room.
@@ -446,32 +231,42 @@ pub fn judge(
     ranks: &[u32],
     room: &mut [u32],
 ) -> Verdict
-    requires ready { ⌜ Ready kind (modelOf d (now marks) (now «action_starts») (now «branch_starts») (now destinations) (now weights)) (claimOf c (now costs) (now claims) (now ranks)) ⌝ }
-    requires room { ⌜ length (now marks) ≤ length (now room) ⌝ }
-    ensures verdict { λ r. ⌜ r ≡ conditions kind (modelOf d (now (marks .entry)) (now («action_starts» .entry)) (now («branch_starts» .entry)) (now (destinations .entry)) (now (weights .entry))) (claimOf c (now (costs .entry)) (now (claims .entry)) (now (ranks .entry))) ⌝ }
-    ensures room { λ r. ⌜ now (room .exit) ≡ roomOf kind (modelOf d (now (marks .entry)) (now («action_starts» .entry)) (now («branch_starts» .entry)) (now (destinations .entry)) (now (weights .entry))) (claimOf c (now (costs .entry)) (now (claims .entry)) (now (ranks .entry))) (now (room .entry)) ⌝ }
+    requires { let t = modelOf d (now marks) (now «action_starts») (now «branch_starts») (now destinations) (now weights) in
+        ⌜ Ready kind t (claimOf c (now costs) (now claims) (now ranks)) ⌝ }
+    requires { ⌜ length (now marks) ≤ length (now room) ⌝ }
+    ensures { λ r.
+        let t = modelOf d (now (marks .entry)) (now («action_starts» .entry)) (now («branch_starts» .entry))
+        (now (destinations .entry)) (now (weights .entry)) in
+        let u = claimOf c (now (costs .entry)) (now (claims .entry)) (now (ranks .entry)) in
+        ⌜ (r ≡ conditions kind t u) × (now (room .exit) ≡ roomOf kind t u (now (room .entry))) ⌝ }
 {
     let mut s = 0;
     while s < marks.len() {
-        let x = judge_state(
+        let state = State {
+            place: s as u32,
+            mark: marks[s],
+            first: action_starts[s],
+            end: action_starts[s + 1],
+            scale: d,
+            claim: claims[s],
+            cost: number_at(costs, s),
+            rank: number_at(ranks, s),
+        };
+        let judged = judge_state(
             kind,
-            d,
             c,
-            marks,
-            action_starts,
+            state,
             branch_starts,
             destinations,
             weights,
-            costs,
             claims,
             ranks,
-            s,
         );
-        let verdict = x.verdict;
+        let verdict = judged.verdict;
         if !verdict.accepts() {
             return verdict;
         }
-        room[s] = x.choice;
+        room[s] = judged.choice;
         s += 1;
     }
     Verdict::Accepted {

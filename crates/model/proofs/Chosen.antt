@@ -33,14 +33,12 @@ pub record LowestOf (t : Model) (s a : ℕ) (Is Isnt : ℕ → Type 0) : Type 0 
 
 -- the lowest action for which a test holds, where there is one
 pub lowest-action : (t : Model) (s : ℕ) (p : ℕ → Bool) → T (someAction t s p) → LowestOf t s (lowestAction t s p) (λ a. T (p a)) (λ a. p a ≡ false)
-unfolding lowestAction someAction
 lowest-action t s p h =
     let f = any-first p (firstAction t s) (firstAction t (s + 1)) h in
     let w = lowest p (firstAction t (s + 1)) (firstAction t s) (omega (arith, f .0, f .1)) in
     record { owned = (f .0, f .1); is = f .2; lower = λ b o l. w .passed b (o .0) l }
 
 some-action : (t : Model) (s : ℕ) (p : ℕ → Bool) (a : ℕ) → Owns t s a → T (p a) → T (someAction t s p)
-unfolding someAction
 some-action t s p a o h = at-any p (firstAction t s) (firstAction t (s + 1)) a (o .0) (o .1) h
 
 taken : (b : Bool) (x y : ℕ) → b ≡ true → cond b x y ≡ x

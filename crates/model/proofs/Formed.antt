@@ -205,7 +205,7 @@ module _ (t : Model) (a : ℕ) where
       tt
 
   pub row-right : T (accepts (actionTest t a)) → Row t a
-  unfolding actionTest totalTest
+  unfolding actionTest branchTest totalTest
   row-right h =
       record {
         destinations = λ j p q. branch j p q .0;
@@ -220,7 +220,7 @@ module _ (t : Model) (a : ℕ) where
       branch j p q = branch-right j (each-all (branchTest t a) (firstBranch t (a + 1)) (totalTest t a) (firstBranch t a) h j p q)
 
   pub right-row : Row t a → T (accepts (actionTest t a))
-  unfolding actionTest totalTest
+  unfolding actionTest branchTest totalTest
   right-row w =
       rw
       (all-each (branchTest t a) (firstBranch t (a + 1)) (totalTest t a) (firstBranch t a)

@@ -22,7 +22,7 @@ use Rattle.model.specs.Tables.{Model, Claim, target, firstAction, firstB
 use Rattle.model.specs.Answers.{pass}
 use Rattle.model.specs.Checked.{accepts}
 use Rattle.model.specs.Conditions.{expected, suits, falls, everyAction, someAction, lowestAction, ask, askActions, targetAsks, condition21}
-use Rattle.model.specs.Conditions.{condition22, condition23, asksFall, condition24, judged}
+use Rattle.model.specs.Conditions.{condition22, condition23, rankAsks, fallAsked, asksFall, condition24, judged}
 use Rattle.model.specs.Meets.{SuitsBy, Suits, Falls, ForActions, Meets}
 use Rattle.model.proofs.Tried.{tried-passed, tried-all}
 
@@ -130,7 +130,7 @@ askedOf w t x s every some =
 
 module _ (k : Kind) (t : Model) (x s : ℕ) (every some : ℕ → Bool) (E S : ℕ → Type 0) where
   pub for-actions : ((a : ℕ) → T (every a) → E a) → ((a : ℕ) → T (some a) → S a) → T (accepts (askActions k t x s every some)) → ForActions (k .who) t s E S
-  unfolding askActions everyAction someAction
+  unfolding askActions
   for-actions e f = by (k .who)
     where
       by : (w : Who) → T (accepts (askedOf w t x s every some)) → ForActions w t s E S
@@ -142,7 +142,7 @@ module _ (k : Kind) (t : Model) (x s : ℕ) (every some : ℕ → Bool) (E S : �
           (p .0, (p .1, p .2), f (p .0) (p .3))
 
   pub of-actions : ((a : ℕ) → E a → T (every a)) → ((a : ℕ) → S a → T (some a)) → ForActions (k .who) t s E S → T (accepts (askActions k t x s every some))
-  unfolding askActions everyAction someAction
+  unfolding askActions
   of-actions e f = by (k .who)
     where
       by : (w : Who) → ForActions w t s E S → T (accepts (askedOf w t x s every some))
@@ -177,20 +177,20 @@ at-least AtLeast h = refl
 module _ (k : Kind) (t : Model) (u : Claim) (s : ℕ) where
   -- 24 is asked where the bound is "at least" and the state is no target and has a rank
   pub asks : k .bound ≡ AtLeast → target t s ≡ false → (rank u s ≡ none → ⊥) → T (asksFall k t u s)
-  unfolding asksFall
+  unfolding asksFall fallAsked
   asks b e r = rw (b, e) (none-not (rank u s) r)
 
   pub of-asks : T (asksFall k t u s) → (k .bound ≡ AtLeast) × (target t s ≡ false) × (rank u s ≡ none → ⊥)
-  unfolding asksFall
+  unfolding asksFall fallAsked
   of-asks h =
-      let q = and-right (isAtLeast (k .bound)) (not (target t s) && ranked u s) h in (
-        at-least (k .bound) (and-left (isAtLeast (k .bound)) (not (target t s) && ranked u s) h),
-        not-true (target t s) (is-true (not (target t s)) (and-left (not (target t s)) (ranked u s) q)),
-        not-none (rank u s) (and-right (not (target t s)) (ranked u s) q),
+      let q = and-right (not (target t s)) (fallAsked k (rank u s)) h in (
+        at-least (k .bound) (and-left (isAtLeast (k .bound)) (ranked u s) q),
+        not-true (target t s) (is-true (not (target t s)) (and-left (not (target t s)) (fallAsked k (rank u s)) h)),
+        not-none (rank u s) (and-right (isAtLeast (k .bound)) (ranked u s) q),
       )
 
   pub met : T (accepts (judged k t u s)) → Meets k t u s
-  unfolding judged condition21 condition22 condition23 condition24 targetAsks
+  unfolding judged condition21 condition22 condition23 condition24 targetAsks rankAsks
   met h =
       let c = tried-all (condition21 k t u s ∷ condition22 k t u s ∷ condition23 k u s ∷ condition24 k t u s ∷ []) pass h in
       let claimed : target t s ≡ true → T (targetAsks k (u .c) (claim u s)) =
@@ -203,7 +203,7 @@ module _ (k : Kind) (t : Model) (u : Claim) (s : ℕ) where
         met23 = λ b p. not-none (rank u s)
             (unless-zero (claim u s) (ranked u s) p
             (unless-true (isAtLeast (k .bound)) (eqb (claim u s) 0 || ranked u s) (rw b refl)
-            (ask-right (not (isAtLeast (k .bound)) || (eqb (claim u s) 0 || ranked u s)) 23 s none (c .1 .1 .0))));
+            (ask-right (rankAsks k (claim u s) (rank u s)) 23 s none (c .1 .1 .0))));
         met24 = λ b e r. for-actions k t 24 s (falls t u s) (λ a. suits k t u s a && falls t u s a) (Falls t u s) (λ a. Suits k t u s a × Falls t u s a)
             (fallen t u s)
             (λ a q. (suited k t u s a (and-left (suits k t u s a) (falls t u s a) q), fallen t u s a (and-right (suits k t u s a) (falls t u s a) q)))
@@ -211,7 +211,7 @@ module _ (k : Kind) (t : Model) (u : Claim) (s : ℕ) where
       }
 
   pub of-met : Meets k t u s → judged k t u s ≡ pass
-  unfolding judged condition21 condition22 condition23 condition24 targetAsks
+  unfolding judged condition21 condition22 condition23 condition24 targetAsks rankAsks
   of-met w =
       tried-passed (condition21 k t u s ∷ condition22 k t u s ∷ condition23 k u s ∷ condition24 k t u s ∷ []) pass (
         right-ask (not (target t s) || targetAsks k (u .c) (claim u s)) 21 s none
@@ -221,7 +221,7 @@ module _ (k : Kind) (t : Model) (u : Claim) (s : ℕ) where
           else-cond (target t s) (askActions k t 22 s (suits k t u s) (suits k t u s))
               (λ e. of-actions k t 22 s (suits k t u s) (suits k t u s) (Suits k t u s) (Suits k t u s) (of-suited k t u s) (of-suited k t u s) (w .met22 e)),
           (
-            right-ask (not (isAtLeast (k .bound)) || (eqb (claim u s) 0 || ranked u s)) 23 s none
+            right-ask (rankAsks k (claim u s) (rank u s)) 23 s none
                 (true-unless (isAtLeast (k .bound)) (eqb (claim u s) 0 || ranked u s)
                 (λ b. zero-unless (claim u s) (ranked u s) (λ p. none-not (rank u s) (w .met23 (at-least (k .bound) (holds b)) p)))),
             (

@@ -5,7 +5,7 @@ use mathlib.Core.List.{List, [], _∷_}
 use mathlib.Core.Logic.{⊎-elim}
 use Prim.Native.Nat.{ℕ, zero, suc, _+_, _-_, _≤_, _<_}
 use native.Mathlib.Omega.{arith}
-use lib.Dec.{T, leb, eqb, leb→le, le→leb}
+use lib.Dec.{T, leb, leb→le, le→leb}
 use lib.ListN.{getD}
 use borrow.Author.Tests.{not-false}
 use Rattle.walk.specs.Fold.{all}
@@ -16,12 +16,11 @@ use Rattle.model.specs.declared.kinds.Kind.{Kind}
 use Rattle.model.specs.declared.kinds.Who.{Who}
 use Rattle.model.specs.declared.kinds.Who.the-variants.{Every, Some}
 use Rattle.model.specs.Limits.{none}
-use Rattle.model.specs.Kinds.{isAtLeast}
-use Rattle.model.specs.Tables.{Model, Claim, target, claim, ranked}
+use Rattle.model.specs.Tables.{Model, Claim, target, claim, rank}
 use Rattle.model.specs.Answers.{pass, isCondition}
 use Rattle.model.specs.Checked.{accepts}
 use Rattle.model.specs.Conditions.{suits, falls, everyAction, someAction, lowestAction, ask, askActions, targetAsks, condition21, condition22}
-use Rattle.model.specs.Conditions.{condition23, asksFall, condition24, judged}
+use Rattle.model.specs.Conditions.{rankAsks, condition23, asksFall, condition24, judged}
 use Rattle.model.specs.Meets.{Suits, Falls}
 use Rattle.model.proofs.Found.{First, tried-first, first-tried}
 use Rattle.model.proofs.Numbers.{Only, only-number, only21, only22, only23, only24}
@@ -92,7 +91,7 @@ asked false x s a y z c e = (refl, (cc))
 named-actions : (k : Kind) (t : Model) (x s : ℕ) (every some : ℕ → Bool) (Keeps : ℕ → Type 0)
     → ((b : ℕ) → T (every b) → Keeps b) → ((b : ℕ) → Keeps b → T (every b)) → (y z a : ℕ)
     → askActions k t x s every some ≡ Violated y z a → Naming (k .who) t s a Keeps
-unfolding askActions everyAction someAction all
+unfolding askActions all
 named-actions k t x s every some Keeps f g y z a = by (k .who)
   where
     by : (w : Who) → askedOf w t x s every some ≡ Violated y z a → Naming w t s a Keeps
@@ -130,7 +129,7 @@ module _ (k : Kind) (t : Model) (u : Claim) (s y z a : ℕ) where
 
   pub named23 : condition23 k u s ≡ Violated y z a → a ≡ none
   unfolding condition23
-  named23 e = asked (not (isAtLeast (k .bound)) || (eqb (claim u s) 0 || ranked u s)) 23 s none y z a e .1
+  named23 e = asked (rankAsks k (claim u s) (rank u s)) 23 s none y z a e .1
 
   pub named24 : condition24 k t u s ≡ Violated y z a → Naming (k .who) t s a (Falls t u s)
   unfolding condition24

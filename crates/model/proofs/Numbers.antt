@@ -13,14 +13,14 @@ use Rattle.model.specs.declared.answers.Verdict.{Verdict}
 use Rattle.model.specs.declared.answers.Verdict.the-variants.{Accepted, Refused, Violated}
 use Rattle.model.specs.declared.kinds.Kind.{Kind}
 use Rattle.model.specs.Limits.{mostStates, mostWeightScale, mostClaimScale, mostCost, none}
-use Rattle.model.specs.Kinds.{isCost, isAtLeast, isSome, kindOf, isKind}
-use Rattle.model.specs.Tables.{Model, Claim, states, actions, branches, target, firstBranch, destination, weight, scale, cost, claim, rank, ranked}
+use Rattle.model.specs.Kinds.{isCost, isSome, kindOf, isKind}
+use Rattle.model.specs.Tables.{Model, Claim, states, actions, branches, target, firstBranch, destination, weight, scale, cost, claim, rank}
 use Rattle.model.specs.Answers.{number, value, action, isCondition, proper, pass, require, throughout}
 use Rattle.model.specs.Refusals.{between, limitOf, rankRight, startRight, kindTest, weightScaleTest, claimScaleTest, statesTest, lengthTest}
 use Rattle.model.specs.Refusals.{lengthsOf, modelLengths, claimLengths, startsTest, marksTest, branchTest, totalTest, actionTest, walkTest}
 use Rattle.model.specs.Refusals.{rowTests, costsTest, claimsTest, ranksTest, sizeTests, rangesOf, rangeTests, tests}
 use Rattle.model.specs.Conditions.{suits, falls, everyAction, someAction, lowestAction, ask, askActions, targetAsks, condition21, condition22}
-use Rattle.model.specs.Conditions.{condition23, asksFall, condition24, judged}
+use Rattle.model.specs.Conditions.{rankAsks, condition23, asksFall, condition24, judged}
 use Rattle.model.specs.Checked.{greatestRank, conditions, verdictOf, answerOf}
 use Rattle.model.proofs.Tried.{EachOf, each-of-append, each-of-map}
 use Rattle.model.proofs.Found.{then-keeps, tried-keeps, each-keeps}
@@ -67,7 +67,7 @@ module _ (t : Model) where
   total-refuses a = require-refuses (eqb (sum (weight t) (firstBranch t a) (firstBranch t (a + 1))) (scale t a)) 11 a tt
 
   action-refuses : (a : ℕ) → T (refuses (actionTest t a))
-  unfolding actionTest
+  unfolding actionTest branchTest totalTest
   action-refuses a =
       each-keeps (λ v. T (refuses v)) (branchTest t a) (firstBranch t (a + 1)) (totalTest t a) (branch-refuses a) (total-refuses a) (firstBranch t a)
 
@@ -158,7 +158,7 @@ module _ (k : Kind) (t : Model) (u : Claim) (s : ℕ) where
 
   pub only23 : Only 23 s (condition23 k u s)
   unfolding condition23
-  only23 = ask-only 23 s (not (isAtLeast (k .bound)) || (eqb (claim u s) 0 || ranked u s)) none
+  only23 = ask-only 23 s (rankAsks k (claim u s) (rank u s)) none
 
   pub only24 : Only 24 s (condition24 k t u s)
   unfolding condition24
@@ -222,7 +222,8 @@ unfolding answerOf verdictOf
 answer-proper kind t u choices =
     then-keeps (λ v. T (proper v)) (kindTest kind) (verdictOf (kindOf kind) t u choices) (refused-proper (kindTest kind) (kind-refuses kind))
     (tried-keeps (λ v. T (proper v)) (tests (kindOf kind) t u (length choices)) (conditions (kindOf kind) t u)
-    (each-of-map (λ v. T (refuses v)) (λ v. T (proper v)) refused-proper (tests (kindOf kind) t u (length choices)) (tests-refuse (kindOf kind) t u (length choices)))
+    (each-of-map (λ v. T (refuses v)) (λ v. T (proper v)) refused-proper (tests (kindOf kind) t u (length choices))
+    (tests-refuse (kindOf kind) t u (length choices)))
     (violated-proper (conditions (kindOf kind) t u) (conditions-violate (kindOf kind) t u)))
 
 -- document 01's number and values tell two proper verdicts apart

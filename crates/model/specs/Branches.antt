@@ -13,7 +13,8 @@ rises long starts a = ltb (a + 1) (length starts) && (ltb (getD starts a 0) (get
 -- from the one start up to the other, or the empty stretch at the beginning
 unfoldable pub stretchOf : ℕ → List ℕ → ℕ → Stretch
 unfolding rises
-stretchOf long starts a = cond (rises long starts a) (record { from = getD starts a 0; to = getD starts (a + 1) 0 }) (record { from = 0; to = 0 })
+stretchOf long starts a =
+    cond (rises long starts a) (record { from = getD starts a 0; to = getD starts (a + 1) 0 }) (record { from = 0; to = 0 })
 
 -- the entries of the table that the stretch holds
 unfoldable pub within : List ℕ → Stretch → List ℕ

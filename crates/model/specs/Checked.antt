@@ -52,7 +52,7 @@ answerOf kind t u choices = record { kind = kind; verdict = then (kindTest kind)
 
 -- the choice at a state: none at a target; where 24 is asked the lowest action that suits and falls; else the lowest that suits
 unfoldable pub choice : Kind → Model → Claim → ℕ → ℕ
-unfolding lowestAction suits falls asksFall
+unfolding suits falls asksFall
 choice k t u s =
     cond (target t s) none
     (cond (asksFall k t u s)

@@ -10,7 +10,7 @@ use Rattle.model.specs.declared.kinds.Kind.{Kind}
 use Rattle.model.specs.declared.limits.Lengths.{Lengths}
 use Rattle.model.specs.Limits.{mostStates, mostActions, mostBranches, mostWeightScale, mostClaimScale, mostCost, mostCostClaim, none}
 use Rattle.model.specs.Kinds.{isCost, isKind, kindOf}
-use Rattle.model.specs.Tables.{Model, Claim, states, actions, branches, firstBranch, destination, weight, scale}
+use Rattle.model.specs.Tables.{Model, Claim, states, actions, branches, firstBranch, scale}
 use Rattle.model.specs.Answers.{pass, tried, each, require, throughout}
 
 abbrev pub between : ℕ → ℕ → ℕ → Bool
@@ -57,32 +57,32 @@ choiceCount kind n = entries (kindOf kind .choices) n
 abbrev pub lengthsOf : Model → Claim → ℕ → Lengths
 lengthsOf t u chosen =
     record {
-      table1 = length (t .marks);
-      table2 = length (t .actionStarts);
-      table3 = length (t .branchStarts);
-      table4 = length (t .destinations);
-      table5 = length (t .weights);
-      table6 = length (u .costs);
-      table7 = length (u .claims);
-      table8 = length (u .ranks);
-      table9 = chosen;
+      marks = length (t .marks);
+      «action_starts» = length (t .actionStarts);
+      «branch_starts» = length (t .branchStarts);
+      destinations = length (t .destinations);
+      weights = length (t .weights);
+      costs = length (u .costs);
+      claims = length (u .claims);
+      ranks = length (u .ranks);
+      choices = chosen;
     }
 
 -- tables 2 to 5, by n, m and b; and tables 6 to 9, by n and the kind
 unfoldable pub modelLengths : Lengths → List Verdict
 modelLengths l =
-    lengthTest 2 (eqb (l .table2) (l .table1 + 1))
-    ∷ lengthTest 3 (between 2 (mostActions + 1) (l .table3))
-    ∷ lengthTest 4 (leb (l .table4) mostBranches)
-    ∷ lengthTest 5 (eqb (l .table5) (l .table4))
+    lengthTest 2 (eqb (l .«action_starts») (l .marks + 1))
+    ∷ lengthTest 3 (between 2 (mostActions + 1) (l .«branch_starts»))
+    ∷ lengthTest 4 (leb (l .destinations) mostBranches)
+    ∷ lengthTest 5 (eqb (l .weights) (l .destinations))
     ∷ []
 
 unfoldable pub claimLengths : Kind → Lengths → List Verdict
 claimLengths k l =
-    lengthTest 6 (eqb (l .table6) (entries (k .costs) (l .table1)))
-    ∷ lengthTest 7 (eqb (l .table7) (l .table1))
-    ∷ lengthTest 8 (eqb (l .table8) (entries (k .ranks) (l .table1)))
-    ∷ lengthTest 9 (eqb (l .table9) (entries (k .choices) (l .table1)))
+    lengthTest 6 (eqb (l .costs) (entries (k .costs) (l .marks)))
+    ∷ lengthTest 7 (eqb (l .claims) (l .marks))
+    ∷ lengthTest 8 (eqb (l .ranks) (entries (k .ranks) (l .marks)))
+    ∷ lengthTest 9 (eqb (l .choices) (entries (k .choices) (l .marks)))
     ∷ []
 
 -- the first start is 0, and any other is above the one before it
@@ -107,20 +107,30 @@ unfolding throughout
 marksTest marks = throughout (λ s. leb (getD marks s 0) 1) (length marks) 8
 
 -- 9: a destination is a state; 10: a weight is 1 to D
+abbrev pub branchOver : (scale n : ℕ) → (destinations weights : List ℕ) → ℕ → Verdict
+branchOver scale n destinations weights j =
+    tried (require (ltb (getD destinations j 0) n) 9 j ∷ require (between 1 scale (getD weights j 0)) 10 j ∷ []) pass
+
 unfoldable pub branchTest : Model → ℕ → ℕ → Verdict
 unfolding tried require
-branchTest t a j =
-    tried (require (ltb (destination t j) (states t)) 9 j ∷ require (between 1 (scale t a) (weight t j)) 10 j ∷ []) pass
+branchTest t a j = branchOver (scale t a) (states t) (t .destinations) (t .weights) j
 
--- 11: the weights of an action add up to D
+-- 11: the weights of action a, its branches from lo up to, not with, hi, add up to D
+abbrev pub totalOver : (scale : ℕ) → (weights : List ℕ) → (a lo hi : ℕ) → Verdict
+totalOver scale weights a lo hi = require (eqb (sum (λ j. getD weights j 0) lo hi) scale) 11 a
+
 unfoldable pub totalTest : Model → ℕ → Verdict
 unfolding require sum
-totalTest t a = require (eqb (sum (weight t) (firstBranch t a) (firstBranch t (a + 1))) (scale t a)) 11 a
+totalTest t a = totalOver (scale t a) (t .weights) a (firstBranch t a) (firstBranch t (a + 1))
 
 -- the branches of an action in order, and then their total
+abbrev pub rowOver : (scale n : ℕ) → (destinations weights : List ℕ) → (a lo hi : ℕ) → Verdict
+rowOver scale n destinations weights a lo hi =
+    each (branchOver scale n destinations weights) lo hi (totalOver scale weights a lo hi)
+
 unfoldable pub actionTest : Model → ℕ → Verdict
-unfolding each branchTest totalTest
-actionTest t a = each (branchTest t a) (firstBranch t a) (firstBranch t (a + 1)) (totalTest t a)
+unfolding each tried require sum
+actionTest t a = rowOver (scale t a) (states t) (t .destinations) (t .weights) a (firstBranch t a) (firstBranch t (a + 1))
 
 -- 9, 10 and 11 are one walk over the actions in order
 unfoldable pub walkTest : Model → Verdict
@@ -160,7 +170,7 @@ ranksTest n ranks = throughout (λ s. rankRight n (getD ranks s 0)) (length rank
 
 -- 2 to 5: the scales, the number of states and the lengths of the tables
 unfoldable pub sizesOf : Kind → ℕ → ℕ → Lengths → List Verdict
-sizesOf k d c l = weightScaleTest d ∷ claimScaleTest k c ∷ statesTest (l .table1) ∷ (modelLengths l ++ claimLengths k l)
+sizesOf k d c l = weightScaleTest d ∷ claimScaleTest k c ∷ statesTest (l .marks) ∷ (modelLengths l ++ claimLengths k l)
 
 unfoldable pub sizeTests : Kind → Model → Claim → ℕ → List Verdict
 unfolding sizesOf

@@ -78,6 +78,9 @@ claim u s = getD (u .claims) s 0
 abbrev pub rank : Claim → ℕ → ℕ
 rank u s = getD (u .ranks) s 0
 
--- state s has a rank that is not none
+-- a rank that is not none
+abbrev pub isRank : ℕ → Bool
+isRank r = not (eqb r none)
+
 abbrev pub ranked : Claim → ℕ → Bool
-ranked u s = not (eqb (rank u s) none)
+ranked u s = isRank (rank u s)

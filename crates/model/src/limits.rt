@@ -45,13 +45,13 @@ impl Rank {
 
 // The lengths of tables 1 to 9.
 pub struct Lengths {
-    pub table1: usize,
-    pub table2: usize,
-    pub table3: usize,
-    pub table4: usize,
-    pub table5: usize,
-    pub table6: usize,
-    pub table7: usize,
-    pub table8: usize,
-    pub table9: usize,
+    pub marks: usize,
+    pub action_starts: usize,
+    pub branch_starts: usize,
+    pub destinations: usize,
+    pub weights: usize,
+    pub costs: usize,
+    pub claims: usize,
+    pub ranks: usize,
+    pub choices: usize,
 }

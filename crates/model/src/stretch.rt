@@ -37,8 +37,12 @@ fn stretch_of(length: usize, branch_starts: &[u32], action: u32) -> Stretch
 // The entries of a table that belong to an action by its two starts. Where there is no such action, or its two starts do not
 // rise within the table, the empty stretch at its beginning.
 pub fn branches<'a>(table: &'a [u32], branch_starts: &[u32], action: u32) -> &'a [u32]
-    ensures entries { λ r. ⌜ now r ≡ within (now (table .entry)) (stretchOf (length (now (table .entry))) (now («branch_starts» .entry)) action) ⌝ }
-    ensures place { λ r. ⌜ ptr r ≡ (ptr (table .entry) .0, stretchOf (length (now (table .entry))) (now («branch_starts» .entry)) action .from * 4 + ptr (table .entry) .1) ⌝ }
+    ensures entries { λ r.
+        let x = stretchOf (length (now (table .entry))) (now («branch_starts» .entry)) action in
+        ⌜ now r ≡ within (now (table .entry)) x ⌝ }
+    ensures place { λ r.
+        let x = stretchOf (length (now (table .entry))) (now («branch_starts» .entry)) action in
+        ⌜ ptr r ≡ (ptr (table .entry) .0, x .from * 4 + ptr (table .entry) .1) ⌝ }
 {
     let x = stretch_of(table.len(), branch_starts, action);
     let from = x.from;

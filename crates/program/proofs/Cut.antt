@@ -1,87 +1,33 @@
 -- The first entries of tables, as a header counts them, checked and printed. Assumes nothing.
 use mathlib.Core.Path.{_≡_, sym, ap, subst, _∙_}
 use mathlib.Core.List.{List, _++_}
-use Prim.Native.Nat.{ℕ, _+_, _-_, _≤_}
+use Prim.Native.Nat.{ℕ, _≤_}
 use native.Mathlib.Omega.{arith}
 use lib.ListN.{length, take, drop}
 use lib.Seq.{length-take-le, length-front, take-at}
-use Rattle.walk.proofs.Fold as Fold
-use Rattle.model.specs.Refusals.{entries, choiceCount}
+use Rattle.model.specs.declared.limits.Lengths.{Lengths}
+use Rattle.model.specs.Refusals.{choiceCount}
 use Rattle.model.specs.Kinds.{kindOf}
 use Rattle.model.proofs.Formed.{entries-most}
-use Rattle.model.specs.Tables.{Model, Claim, modelOf, claimOf}
+use Rattle.model.specs.Tables.{Model, Claim}
 use Rattle.model.specs.declared.answers.Answer.{Answer}
 use Rattle.model.specs.Checked.{refusalOf, choicesOf}
 use Rattle.model.specs.Answers.{number}
 use Rattle.model.specs.declared.answers.Verdict.{Verdict}
 use Rattle.checker.specs.Promise.{Checked}
 use Rattle.report.specs.Text.{textOf}
-use Rattle.wire.specs.Blocks.{block}
 use Rattle.certfile.specs.declared.Header.{Header}
-use Rattle.certfile.specs.declared.layout.Lengths.{Lengths}
-use Rattle.certfile.specs.File.{announced}
 use Rattle.certfile.specs.Layout.{countsOf}
-use Rattle.certfile.specs.Tables.{Tables, lent}
-use Rattle.certfile.specs.Contents.{cut, modelCut, claimCut}
+use Rattle.certfile.specs.Tables.{Tables}
+use Rattle.certfile.specs.Contents.{modelCut, claimCut}
+use Rattle.certfile.proofs.Cut.{states-counted, modelTaken, claimTaken, model-cut, claim-cut}
 use Rattle.program.specs.declared.Told.{Told}
 use Rattle.program.specs.Printed.{checkedText, chosenIn}
-use Rattle.program.specs.Shows.{Roomy, Enough, Judged}
-
--- each part that is cut has the length that is asked
-pub record Cuts (count : Lengths) (t : Tables) : Type 0 where
-  pub marks : count .marks ≡ length (take (count .marks) (t .marks))
-  pub actionStarts : count .«action_starts» ≡ length (take (count .«action_starts») (t .actionStarts))
-  pub branchStarts : count .«branch_starts» ≡ length (take (count .«branch_starts») (t .branchStarts))
-  pub destinations : count .destinations ≡ length (take (count .destinations) (t .destinations))
-  pub weights : count .weights ≡ length (take (count .weights) (t .weights))
-  pub costs : count .costs ≡ length (take (count .costs) (t .costs))
-  pub claims : count .claims ≡ length (take (count .claims) (t .claims))
-  pub ranks : count .ranks ≡ length (take (count .ranks) (t .ranks))
-
-pub cuts : (h : Header) (count : Lengths) (t : Tables) → count ≡ countsOf h → Roomy h (lent t) → Cuts count t
-cuts h count t q e =
-    rw q
-    (record {
-      marks = sym (length-take-le _ (t .marks) (e 0));
-      actionStarts = sym (length-take-le _ (t .actionStarts) (e 1));
-      branchStarts = sym (length-take-le _ (t .branchStarts) (e 2));
-      destinations = sym (length-take-le _ (t .destinations) (e 3));
-      weights = sym (length-take-le _ (t .weights) (e 4));
-      costs = sym (length-take-le _ (t .costs) (e 5));
-      claims = sym (length-take-le _ (t .claims) (e 6));
-      ranks = sym (length-take-le _ (t .ranks) (e 7));
-    })
-
--- the states are those that the header counts
-pub states-counted : (h : Header) (count : Lengths) → count ≡ countsOf h → count .marks ≡ h .n
-unfolding block announced
-states-counted h count q = rw q
+use Rattle.program.specs.Shows.{Judged}
 
 -- the choice list has no more entries than there are states
 pub chosen-few : (h : Header) (count : Lengths) (chosen : ℕ) → count ≡ countsOf h → chosen ≡ choiceCount (h .kind) (count .marks) → chosen ≤ h .n
 chosen-few h count chosen q f = omega (arith, states-counted h count q, f, entries-most (kindOf (h .kind) .choices) (count .marks))
-
--- the model and the claim that the cut tables are
-module _ (h : Header) (count : Lengths) (t : Tables) where
-  abbrev modelTaken : Model
-  modelTaken =
-      modelOf (h .d)
-      (take (count .marks) (t .marks))
-      (take (count .«action_starts») (t .actionStarts))
-      (take (count .«branch_starts») (t .branchStarts))
-      (take (count .destinations) (t .destinations))
-      (take (count .weights) (t .weights))
-
-  abbrev claimTaken : Claim
-  claimTaken = claimOf (h .c) (take (count .costs) (t .costs)) (take (count .claims) (t .claims)) (take (count .ranks) (t .ranks))
-
-  model-cut : count ≡ countsOf h → modelTaken ≡ modelCut h t
-  unfolding cut
-  model-cut q = rw q
-
-  claim-cut : count ≡ countsOf h → claimTaken ≡ claimCut h t
-  unfolding cut
-  claim-cut q = rw q
 
 chosen-counted : (h : Header) (count : Lengths) (chosen : ℕ) → count ≡ countsOf h → chosen ≡ choiceCount (h .kind) (count .marks) → chosen ≡ chosenIn h
 chosen-counted h count chosen q f = f ∙ ap (choiceCount (h .kind)) (states-counted h count q)

@@ -3,11 +3,10 @@ use mathlib.Core.Path.{_≡_, refl, sym, ap, subst, _∙_}
 use mathlib.Core.Bool.{Bool, true, false, cond}
 use mathlib.Core.List.{List}
 use lib.Dec.{ltb}
-use Prim.Native.Nat.{ℕ, _+_, _-_, _*_, _≤_, _<_}
+use Prim.Native.Nat.{ℕ, _≤_, _<_}
 use native.Mathlib.Omega.{arith}
 use lib.ListN.{length, getD, take, length-append}
 use borrow.Author.Tests.{lt-ltb, le-ltb}
-use Rattle.walk.proofs.Fold as Fold
 use Rattle.model.specs.declared.answers.Verdict.{Verdict}
 use Rattle.model.specs.declared.answers.Verdict.the-variants.{Refused as Refuses}
 use Rattle.model.specs.Answers.{number, then, require}
@@ -22,28 +21,11 @@ use Rattle.certfile.specs.declared.Outcome.the-variants.{Read, Refused}
 use Rattle.certfile.specs.File.{announced, outcomeOf, tableOf}
 use Rattle.certfile.specs.Tables.{Tables, tables, lent, ReadInto}
 use Rattle.certfile.specs.Contents.{modelIn, claimIn, modelCut, claimCut}
-use Rattle.certfile.proofs.Passed.{ready}
+use Rattle.certfile.proofs.Passed.{read-roomy}
 use Rattle.certfile.proofs.Contents.{model-read, claim-read}
 use Rattle.program.specs.declared.Told.{Told}
 use Rattle.program.specs.Printed.{loadedOf, refusalIn, verdictIn, readText, refusedText, choicesIn, chosenIn, filledBy}
-use Rattle.program.specs.Shows.{Shows, Roomy, Long, Enough, LoadedInto, Judged, Unprinted, Answered}
-
-pub lengths-kept : (t u : Tables)
-    → length (u .marks) ≡ length (t .marks)
-    → length (u .actionStarts) ≡ length (t .actionStarts)
-    → length (u .branchStarts) ≡ length (t .branchStarts)
-    → length (u .destinations) ≡ length (t .destinations)
-    → length (u .weights) ≡ length (t .weights)
-    → length (u .costs) ≡ length (t .costs)
-    → length (u .claims) ≡ length (t .claims)
-    → length (u .ranks) ≡ length (t .ranks)
-    → lent u ≡ lent t
-lengths-kept t u a b c d e f g h = rw (a, b, c, d, e, f, g, h)
-
--- tables that a file was read into have room for its blocks
-pub roomy : (o : Outcome) (file : List ℕ) (t u : Tables) → ReadInto o file t u → (h : Header) → o ≡ Read h → lent u ≡ lent t → Roomy h (lent u)
-roomy o file t u w h e kept =
-    λ i. subst (λ (l : List ℕ). block (announced h) i .count ≤ getD l i 0) (sym kept) (ready (lent t) file h (sym (w .answer) ∙ e) i .1)
+use Rattle.program.specs.Shows.{Shows, Long, Enough, LoadedInto, Judged, Unprinted, Answered}
 
 -- over-long input is refused before all else, and any other is read
 pub too-long : (most : ℕ) (file : List ℕ) (t : Tables) → most < length file → LoadedInto most (Refused 33 0) file t t
@@ -111,7 +93,7 @@ module _ (most : ℕ) (o : Outcome) (file : List ℕ) (t u : Tables) (w : Loaded
       pub enough : lent u ≡ lent t → Long (length (t .marks)) list text → Enough h (lent u) list text
       unfolding block announced
       enough kept long =
-          let at = roomy o file t u read-into h e kept in
+          let at = read-roomy o file t u read-into h e kept in
           let fits : h .n ≤ length (t .marks) = omega (arith, at 0, ap (λ (l : List ℕ). getD l 0 0) kept) in
           record {
             tables = at;

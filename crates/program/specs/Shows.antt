@@ -2,19 +2,17 @@
 use Prim.Native.Nat.{ℕ, _+_, _*_, _≤_}
 use mathlib.Core.Path.{_≡_}
 use mathlib.Core.List.{List, _++_}
-use lib.ListN.{length, getD, take, drop}
+use lib.ListN.{length, take, drop}
 use Rattle.model.specs.declared.answers.Verdict.the-variants.{Accepted, Refused}
 use Rattle.model.specs.Answers.{number, then}
 use Rattle.model.specs.Kinds.{kindOf}
 use Rattle.model.specs.Tables.{Model, Claim}
 use Rattle.model.specs.Checked.{answerOf, choicesOf}
 use Rattle.soundness.specs.Demand3.{Holds}
-use Rattle.wire.specs.Blocks.{block}
 use Rattle.certfile.specs.declared.Header.{Header}
 use Rattle.certfile.specs.declared.Outcome.{Outcome}
 use Rattle.certfile.specs.declared.Outcome.the-variants.{Read}
-use Rattle.certfile.specs.File.{announced}
-use Rattle.certfile.specs.Tables.{Tables, lent}
+use Rattle.certfile.specs.Tables.{Tables, lent, Roomy}
 use Rattle.certfile.specs.Contents.{modelIn, claimIn}
 use Rattle.program.specs.declared.Told.{Told}
 use Rattle.program.specs.Printed.{loadedOf, refusalIn, verdictIn, checkedText, readText, choicesIn, chosenIn, filledBy}
@@ -22,10 +20,6 @@ use Rattle.program.specs.Printed.{loadedOf, refusalIn, verdictIn, checke
 pub record Shows (bytes : List ℕ) (r : ℕ) (before after : List ℕ) : Type 0 where
   pub length : r ≡ length bytes
   pub text : after ≡ bytes ++ drop r before
-
--- each lent table has room for its block
-abbrev pub Roomy : Header → List ℕ → Type 0
-Roomy h lent = (i : ℕ) → block (announced h) i .count ≤ getD lent i 0
 
 -- a choice list has room for a choice of each state, and a text for what may be printed of them
 pub record Long (states : ℕ) (list text : List ℕ) : Type 0 where

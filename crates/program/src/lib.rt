@@ -134,27 +134,19 @@ fn judged(
         (now (choices .exit)) (now (text .exit)) ⌝ }
 {
     let count = certfile::counts_of(h);
-    let n = count.marks;
-    let starts = count.action_starts;
-    let rows = count.branch_starts;
-    let to = count.destinations;
-    let by = count.weights;
-    let costly = count.costs;
-    let claimed = count.claims;
-    let ranked = count.ranks;
-    let chosen = model::choice_count(h.kind, n);
+    let chosen = model::choice_count(h.kind, count.marks);
     let answer = checker::check(
         h.kind,
         h.d,
         h.c,
-        &marks[..n],
-        &action_starts[..starts],
-        &branch_starts[..rows],
-        &destinations[..to],
-        &weights[..by],
-        &costs[..costly],
-        &claims[..claimed],
-        &ranks[..ranked],
+        &marks[..count.marks],
+        &action_starts[..count.action_starts],
+        &branch_starts[..count.branch_starts],
+        &destinations[..count.destinations],
+        &weights[..count.weights],
+        &costs[..count.costs],
+        &claims[..count.claims],
+        &ranks[..count.ranks],
         &mut choices[..chosen],
     );
     let verdict = answer.verdict;

@@ -1,10 +1,9 @@
 // Tables that hold a file, refused or not.
 ghost use mathlib.Core.Path.{_≡_};
 ghost use Rattle.certfile.specs.Contents.{modelCut, claimCut};
-ghost use Rattle.certfile.specs.Tables.{tables, lent};
+ghost use Rattle.certfile.specs.Tables.{tables, lent, Roomy};
 ghost use Rattle.model.specs.Checked.{refusalOf};
 ghost use Rattle.program.specs.Printed.{chosenIn};
-ghost use Rattle.program.specs.Shows.{Roomy};
 use certfile::Header;
 use model::Verdict;
 
@@ -29,27 +28,19 @@ pub fn refusal(
         ⌜ r ≡ refusalOf (h .kind) (modelCut h t) (claimCut h t) (chosenIn h) ⌝ }
 {
     let count = certfile::counts_of(h);
-    let n = count.marks;
-    let starts = count.action_starts;
-    let rows = count.branch_starts;
-    let to = count.destinations;
-    let by = count.weights;
-    let costly = count.costs;
-    let claimed = count.claims;
-    let ranked = count.ranks;
-    let chosen = model::choice_count(h.kind, n);
+    let chosen = model::choice_count(h.kind, count.marks);
     checker::refuse(
         h.kind,
         h.d,
         h.c,
-        &marks[..n],
-        &action_starts[..starts],
-        &branch_starts[..rows],
-        &destinations[..to],
-        &weights[..by],
-        &costs[..costly],
-        &claims[..claimed],
-        &ranks[..ranked],
+        &marks[..count.marks],
+        &action_starts[..count.action_starts],
+        &branch_starts[..count.branch_starts],
+        &destinations[..count.destinations],
+        &weights[..count.weights],
+        &costs[..count.costs],
+        &claims[..count.claims],
+        &ranks[..count.ranks],
         chosen,
     )
 }

@@ -3,8 +3,7 @@
 ghost use mathlib.Core.Path.{_≡_};
 ghost use Prim.Native.Nat.{ℕ, _+_, _≤_, _<_, _^_};
 ghost use lib.ListN.{length};
-ghost use Rattle.certfile.specs.Tables.{tables, lent};
-ghost use Rattle.program.specs.Shows.{Roomy};
+ghost use Rattle.certfile.specs.Tables.{tables, lent, Roomy};
 ghost use Rattle.writer.specs.declared.Written.the-variants.{Length};
 use certfile::FileRefusal;
 use certfile::Header;
@@ -28,30 +27,24 @@ fn write(
     ranks: &[u32],
     buffer: &mut [u8],
 ) -> Written
-    requires { ⌜ Roomy h (lent (tables (now marks) (now «action_starts») (now «branch_starts») (now destinations) (now weights) (now costs) (now claims) (now ranks))) ⌝ }
+    requires { let t = tables (now marks) (now «action_starts») (now «branch_starts») (now destinations)
+        (now weights) (now costs) (now claims) (now ranks) in
+        ⌜ Roomy h (lent t) ⌝ }
     ensures { λ r. ⌜ ((n : ℕ) → r ≡ Length n → n ≤ length (now (buffer .exit))) ⌝ }
 {
     let count = certfile::counts_of(h);
-    let n = count.marks;
-    let starts = count.action_starts;
-    let rows = count.branch_starts;
-    let to = count.destinations;
-    let by = count.weights;
-    let costly = count.costs;
-    let claimed = count.claims;
-    let ranked = count.ranks;
     writer::write(
         h.kind,
         h.d,
         h.c,
-        &marks[..n],
-        &action_starts[..starts],
-        &branch_starts[..rows],
-        &destinations[..to],
-        &weights[..by],
-        &costs[..costly],
-        &claims[..claimed],
-        &ranks[..ranked],
+        &marks[..count.marks],
+        &action_starts[..count.action_starts],
+        &branch_starts[..count.branch_starts],
+        &destinations[..count.destinations],
+        &weights[..count.weights],
+        &costs[..count.costs],
+        &claims[..count.claims],
+        &ranks[..count.ranks],
         buffer,
     )
 }

@@ -1,91 +1,89 @@
 -- The walk over one action's branches: what it has shown at branch j, and what each way out of it answers. Assumes nothing.
 use mathlib.Core.Path.{_≡_, sym, _∙_}
+use mathlib.Core.List.{List}
 use Prim.Native.Nat.{ℕ, _+_, _*_, _≤_, _<_, zero-le}
-use native.Mathlib.Nat.{le-of-lt}
 use native.Mathlib.Omega.{arith}
 use lib.Dec.{eqb}
-use lib.ListN.{length}
+use lib.ListN.{getD}
 use borrow.Author.Tests.{lt-ltb, le-ltb, le-leb, lt-leb, eq-eqb, ne-eqb}
 use Rattle.walk.specs.Fold.{sum}
 use Rattle.walk.proofs.Bools.{holds}
 use Rattle.walk.proofs.Loop.{Summing, sum-start, sum-pass, sum-ends}
 use Rattle.model.specs.declared.answers.Verdict.the-variants.{Refused}
-use Rattle.model.specs.Tables.{Model, states, branches, firstBranch, destination, weight, scale}
-use Rattle.model.specs.Answers.{pass, then, require}
-use Rattle.model.specs.Refusals.{branchTest, totalTest, actionTest}
-use Rattle.model.specs.WellFormed.{Starts}
+use Rattle.model.specs.Answers.{pass, then, tried, require}
+use Rattle.model.specs.Refusals.{branchOver, totalOver, rowOver}
 use Rattle.model.proofs.Tried.{Trying, try-start, try-pass, try-stop, try-end, right-require, wrong-require}
-use Rattle.model.proofs.Rising.{start-below}
+use Rattle.rows.specs.Fitting.{Within}
 
-pub record Counting (t : Model) (a total j : ℕ) : Type 0 where
-  pub trying : Trying (branchTest t a) (firstBranch t (a + 1)) (totalTest t a) (actionTest t a) j
-  pub summing : Summing (weight t) (firstBranch t (a + 1)) (sum (weight t) (firstBranch t a) (firstBranch t (a + 1))) j total
-  pub end : firstBranch t (a + 1) ≤ branches t
-  pub small : total ≤ j * 4294967295
+module _ (d n : ℕ) (destinations weights : List ℕ) where
+  abbrev weight : ℕ → ℕ
+  weight j = getD weights j 0
 
-pub count-start : (t : Model) (a : ℕ) → Starts (t .branchStarts) (branches t) → a + 1 < length (t .branchStarts) → Counting t a 0 (firstBranch t a)
-unfolding actionTest totalTest
-count-start t a w l =
-    let r : firstBranch t a ≤ firstBranch t (a + 1) = le-of-lt (w .rises a l) in
-    record {
-      trying = try-start (branchTest t a) (firstBranch t a) (firstBranch t (a + 1)) (totalTest t a) r;
-      summing = sum-start (weight t) (firstBranch t a) (firstBranch t (a + 1)) r;
-      end = start-below (t .branchStarts) (branches t) w (a + 1) l;
-      small = zero-le;
-    }
+  pub record Counting (a lo hi total j : ℕ) : Type 0 where
+    pub trying : Trying (branchOver d n destinations weights) hi (totalOver d weights a lo hi) (rowOver d n destinations weights a lo hi) j
+    pub summing : Summing weight hi (sum weight lo hi) j total
+    pub fits : Within destinations weights lo hi
+    pub small : total ≤ j * 4294967295
 
--- one branch, by its tests
-module _ (t : Model) (a j : ℕ) where
-  nine : states t ≤ destination t j → branchTest t a j ≡ Refused 9 j
-  unfolding branchTest require then
-  nine h = rw (le-ltb (destination t j) (states t) h)
+  pub count-start : (a lo hi : ℕ) → Within destinations weights lo hi → Counting a lo hi 0 lo
+  count-start a lo hi w =
+      record {
+        trying = try-start (branchOver d n destinations weights) lo hi (totalOver d weights a lo hi) (w .low);
+        summing = sum-start weight lo hi (w .low);
+        fits = w;
+        small = zero-le;
+      }
 
-  module _ (l : destination t j < states t) where
-    low : weight t j < 1 → branchTest t a j ≡ Refused 10 j
-    unfolding branchTest require then
-    low h = rw (lt-ltb (destination t j) (states t) l, lt-leb 1 (weight t j) h)
+  -- one branch, by its tests
+  module _ (j : ℕ) where
+    nine : n ≤ getD destinations j 0 → branchOver d n destinations weights j ≡ Refused 9 j
+    unfolding tried require then
+    nine h = rw (le-ltb (getD destinations j 0) n h)
 
-    high : 1 ≤ weight t j → scale t a < weight t j → branchTest t a j ≡ Refused 10 j
-    unfolding branchTest require then
-    high g h = rw (lt-ltb (destination t j) (states t) l, le-leb 1 (weight t j) g, lt-leb (weight t j) (scale t a) h)
+    module _ (l : getD destinations j 0 < n) where
+      low : weight j < 1 → branchOver d n destinations weights j ≡ Refused 10 j
+      unfolding tried require then
+      low h = rw (lt-ltb (getD destinations j 0) n l, lt-leb 1 (weight j) h)
 
-    fine : 1 ≤ weight t j → weight t j ≤ scale t a → branchTest t a j ≡ pass
-    unfolding branchTest require then
-    fine g h = rw (lt-ltb (destination t j) (states t) l, le-leb 1 (weight t j) g, le-leb (weight t j) (scale t a) h)
+      high : 1 ≤ weight j → d < weight j → branchOver d n destinations weights j ≡ Refused 10 j
+      unfolding tried require then
+      high g h = rw (lt-ltb (getD destinations j 0) n l, le-leb 1 (weight j) g, lt-leb (weight j) d h)
 
-module _ {t : Model} {a total j : ℕ} (w : Counting t a total j) where
-  stop : (k p : ℕ) → j < firstBranch t (a + 1) → branchTest t a j ≡ Refused k p → Refused k p ≡ actionTest t a
+      fine : 1 ≤ weight j → weight j ≤ d → branchOver d n destinations weights j ≡ pass
+      unfolding tried require then
+      fine g h = rw (lt-ltb (getD destinations j 0) n l, le-leb 1 (weight j) g, le-leb (weight j) d h)
+
+module _ {d n : ℕ} {destinations weights : List ℕ} {a lo hi total j : ℕ} (w : Counting d n destinations weights a lo hi total j) where
+  stop : (k p : ℕ) → j < hi → branchOver d n destinations weights j ≡ Refused k p → Refused k p ≡ rowOver d n destinations weights a lo hi
   stop k p h e = sym e ∙ try-stop (w .trying) h (rw e)
 
-  pub stop-nine : j < firstBranch t (a + 1) → states t ≤ destination t j → Refused 9 j ≡ actionTest t a
-  stop-nine h q = stop 9 j h (nine t a j q)
+  pub stop-nine : j < hi → n ≤ getD destinations j 0 → Refused 9 j ≡ rowOver d n destinations weights a lo hi
+  stop-nine h q = stop 9 j h (nine d n destinations weights j q)
 
-  pub stop-low : j < firstBranch t (a + 1) → destination t j < states t → weight t j < 1 → Refused 10 j ≡ actionTest t a
-  stop-low h l q = stop 10 j h (low t a j l q)
+  pub stop-low : j < hi → getD destinations j 0 < n → getD weights j 0 < 1 → Refused 10 j ≡ rowOver d n destinations weights a lo hi
+  stop-low h l q = stop 10 j h (low d n destinations weights j l q)
 
-  pub stop-high : j < firstBranch t (a + 1) → destination t j < states t → 1 ≤ weight t j → scale t a < weight t j → Refused 10 j ≡ actionTest t a
-  stop-high h l g q = stop 10 j h (high t a j l g q)
+  pub stop-high : j < hi → getD destinations j 0 < n → 1 ≤ getD weights j 0 → d < getD weights j 0 → Refused 10 j ≡ rowOver d n destinations weights a lo hi
+  stop-high h l g q = stop 10 j h (high d n destinations weights j l g q)
 
-  pub count-pass : j < firstBranch t (a + 1) → destination t j < states t → 1 ≤ weight t j → weight t j ≤ scale t a → weight t j ≤ 4294967295
-      → Counting t a (total + weight t j) (j + 1)
+  pub count-pass : j < hi → getD destinations j 0 < n → 1 ≤ getD weights j 0 → getD weights j 0 ≤ d → getD weights j 0 ≤ 4294967295
+      → Counting d n destinations weights a lo hi (total + getD weights j 0) (j + 1)
   count-pass h l g q f =
       record {
-        trying = try-pass (w .trying) h (rw (fine t a j l g q) tt);
+        trying = try-pass (w .trying) h (rw (fine d n destinations weights j l g q) tt);
         summing = sum-pass (w .summing) h;
-        end = w .end;
+        fits = w .fits;
         small = omega (arith, w .small);
       }
 
-  pub stop-eleven : firstBranch t (a + 1) ≤ j → (total ≡ scale t a → ⊥) → Refused 11 a ≡ actionTest t a
-  unfolding totalTest
+  pub stop-eleven : hi ≤ j → (total ≡ d → ⊥) → Refused 11 a ≡ rowOver d n destinations weights a lo hi
   stop-eleven h q =
-      sym (wrong-require (eqb (sum (weight t) (firstBranch t a) (firstBranch t (a + 1))) (scale t a)) 11 a
-      (ne-eqb (sum (weight t) (firstBranch t a) (firstBranch t (a + 1))) (scale t a) (λ e. q (sum-ends (w .summing) h ∙ e))))
+      sym (wrong-require (eqb (sum (λ j. getD weights j 0) lo hi) d) 11 a
+      (ne-eqb (sum (λ j. getD weights j 0) lo hi) d (λ e. q (sum-ends (w .summing) h ∙ e))))
       ∙ try-end (w .trying) h
 
-  pub count-end : firstBranch t (a + 1) ≤ j → total ≡ scale t a → pass ≡ actionTest t a
-  unfolding totalTest
+  pub count-end : hi ≤ j → total ≡ d → pass ≡ rowOver d n destinations weights a lo hi
   count-end h q =
-      sym (right-require (eqb (sum (weight t) (firstBranch t a) (firstBranch t (a + 1))) (scale t a)) 11 a
-      (holds (eq-eqb (sum (weight t) (firstBranch t a) (firstBranch t (a + 1))) (scale t a) (sym (sum-ends (w .summing) h) ∙ q))))
+      sym (right-require (eqb (sum (λ j. getD weights j 0) lo hi) d) 11 a
+      (holds (eq-eqb (sum (λ j. getD weights j 0) lo hi) d (sym (sum-ends (w .summing) h) ∙ q))))
       ∙ try-end (w .trying) h

@@ -1,12 +1,12 @@
 // Rows counted: refusals 6 to 11, over tables 1 to 5 whose lengths are right.
 ghost use mathlib.Core.Path.{_≡_};
-ghost use Prim.Native.Nat.{_+_, _-_, _<_, _^_};
+ghost use Prim.Native.Nat.{_<_, _^_};
 ghost use lib.ListN.{length};
 ghost use Rattle.model.specs.Answers.{pass, tried};
 ghost use Rattle.model.specs.Tables.{modelOf};
-ghost use Rattle.model.specs.Refusals.{startRises, startEnds, startRight, startsTest, marksTest, actionTest, walkTest, rowTests};
-ghost use Rattle.model.specs.WellFormed.{Starts};
-ghost use Rattle.rows.specs.Fitting.{Fitting};
+ghost use Rattle.model.specs.Refusals.{startRises, startEnds, startRight, startsTest, marksTest, rowOver, rowTests};
+ghost use Rattle.rows.specs.Fitting.{Fitting, Within, Walkable};
+ghost use Rattle.rows.specs.Walk.{walkOver};
 use model::Refusal;
 use model::Verdict;
 
@@ -79,25 +79,21 @@ fn marks_test(marks: &[u8]) -> Verdict
     Verdict::Accepted { rank: 0 }
 }
 
-// 9 to 11: each destination of an action is a state, each weight is 1 to D, and the weights add up to D.
+// 9 to 11: each destination of action a is a state, each weight is 1 to D, and the weights add up to D.
 fn action_test(
     d: u32,
-    marks: &[u8],
-    action_starts: &[u32],
-    branch_starts: &[u32],
+    n: usize,
+    a: u32,
+    lo: usize,
+    hi: usize,
     destinations: &[u32],
     weights: &[u32],
-    a: usize,
 ) -> Verdict
-    requires { ⌜ Fitting (modelOf d (now marks) (now «action_starts») (now «branch_starts») (now destinations) (now weights)) ⌝ }
-    requires { ⌜ Starts (now «branch_starts») (length (now destinations)) ⌝ }
-    requires { ⌜ a + 1 < length (now «branch_starts») ⌝ }
-    ensures { λ r. ⌜ r ≡ actionTest (modelOf d (now (marks .entry)) (now («action_starts» .entry)) (now («branch_starts» .entry)) (now (destinations .entry)) (now (weights .entry))) a ⌝ }
+    requires { ⌜ Within (now destinations) (now weights) lo hi ⌝ }
+    ensures { λ r. ⌜ r ≡ rowOver d n (now (destinations .entry)) (now (weights .entry)) a lo hi ⌝ }
 {
-    let n = marks.len();
-    let hi = branch_starts[a + 1] as usize;
     let mut total: u64 = 0;
-    let mut j = branch_starts[a] as usize;
+    let mut j = lo;
     while j < hi {
         if n <= destinations[j] as usize {
             return Verdict::Refused {
@@ -124,7 +120,7 @@ fn action_test(
     if total != d as u64 {
         return Verdict::Refused {
             number: Refusal::TOTAL,
-            place: a as u32,
+            place: a,
         };
     }
     Verdict::Accepted { rank: 0 }
@@ -133,28 +129,20 @@ fn action_test(
 // 9 to 11 as one walk over the actions in order.
 fn walk_test(
     d: u32,
-    marks: &[u8],
-    action_starts: &[u32],
+    n: usize,
     branch_starts: &[u32],
     destinations: &[u32],
     weights: &[u32],
 ) -> Verdict
-    requires { ⌜ Fitting (modelOf d (now marks) (now «action_starts») (now «branch_starts») (now destinations) (now weights)) ⌝ }
-    requires { ⌜ Starts (now «branch_starts») (length (now destinations)) ⌝ }
-    ensures { λ r. ⌜ r ≡ walkTest (modelOf d (now (marks .entry)) (now («action_starts» .entry)) (now («branch_starts» .entry)) (now (destinations .entry)) (now (weights .entry))) ⌝ }
+    requires { ⌜ Walkable (now «branch_starts») (now destinations) (now weights) ⌝ }
+    ensures { λ r. ⌜ r ≡ walkOver d n (now («branch_starts» .entry)) (now (destinations .entry)) (now (weights .entry)) ⌝ }
 {
     let m = branch_starts.len() - 1;
     let mut a = 0;
     while a < m {
-        let v = action_test(
-            d,
-            marks,
-            action_starts,
-            branch_starts,
-            destinations,
-            weights,
-            a,
-        );
+        let lo = branch_starts[a] as usize;
+        let hi = branch_starts[a + 1] as usize;
+        let v = action_test(d, n, a as u32, lo, hi, destinations, weights);
         if !v.accepts() {
             return v;
         }
@@ -172,8 +160,12 @@ pub fn count(
     destinations: &[u32],
     weights: &[u32],
 ) -> Verdict
-    requires { ⌜ Fitting (modelOf d (now marks) (now «action_starts») (now «branch_starts») (now destinations) (now weights)) ⌝ }
-    ensures { λ r. ⌜ r ≡ tried (rowTests (modelOf d (now (marks .entry)) (now («action_starts» .entry)) (now («branch_starts» .entry)) (now (destinations .entry)) (now (weights .entry)))) pass ⌝ }
+    requires { let t = modelOf d (now marks) (now «action_starts») (now «branch_starts») (now destinations) (now weights) in
+        ⌜ Fitting t ⌝ }
+    ensures { λ r.
+        let t = modelOf d (now (marks .entry)) (now («action_starts» .entry)) (now («branch_starts» .entry))
+        (now (destinations .entry)) (now (weights .entry)) in
+        ⌜ r ≡ tried (rowTests t) pass ⌝ }
 {
     let v = starts_test(
         Refusal::ACTION_STARTS,
@@ -191,12 +183,5 @@ pub fn count(
     if !v.accepts() {
         return v;
     }
-    walk_test(
-        d,
-        marks,
-        action_starts,
-        branch_starts,
-        destinations,
-        weights,
-    )
+    walk_test(d, marks.len(), branch_starts, destinations, weights)
 }

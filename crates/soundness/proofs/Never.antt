@@ -18,7 +18,8 @@ within-claim c N B claim gain values claims h k = omega (arith, mul-le-mul-left 
 
 module _ (P : Process) (c : ℕ) (claim : ℕ → ℕ) (Within : ℕ → Type 0) (Allowed : ℕ → ℕ → Type 0) (h : AtMost P c claim Within Allowed) where
   -- a stop keeps within its claim, so that only the other states are to be shown
-  unless-stopped : (σ : Strategy) (k s : ℕ) → Within s → (P .stops s ≡ false → c * stepped P σ k s ≤ claim s * P .base ^ k) → c * stepped P σ k s ≤ claim s * P .base ^ k
+  unless-stopped : (σ : Strategy) (k s : ℕ) → Within s → (P .stops s ≡ false → c * stepped P σ k s ≤ claim s * P .base ^ k)
+      → c * stepped P σ k s ≤ claim s * P .base ^ k
   unless-stopped σ k s w go = by (P .stops s) refl
     where
       by : (b : Bool) → P .stops s ≡ b → c * stepped P σ k s ≤ claim s * P .base ^ k

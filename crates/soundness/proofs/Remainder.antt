@@ -4,7 +4,8 @@ use mathlib.Core.Bool.{Bool, true, false}
 use mathlib.Core.List.{[], _∷_}
 use mathlib.Core.Logic.{_⊎_, inl, inr, ⊎-elim}
 use Prim.Native.Nat.{ℕ, zero, suc, _+_, _-_, _*_, _^_, _≤_, _<_}
-use native.Mathlib.Nat.{add-le-add, mul-le-mul, mul-le-mul-left, mul-le-mul-right, mul-one, mul-suc, suc-mul, mul-zero, zero-mul, mul-assoc, mul-comm, mul-sub, add-suc, add-zero, pow-zero, pow-suc, pow-le-pow-left, sub-add-cancel}
+use native.Mathlib.Nat.{add-le-add, mul-le-mul, mul-le-mul-left, mul-le-mul-right, pow-le-pow-left, sub-add-cancel}
+use native.Mathlib.Nat.{mul-one, mul-suc, suc-mul, mul-zero, zero-mul, mul-assoc, mul-comm, mul-sub, add-suc, add-zero, pow-zero, pow-suc}
 use native.Mathlib.Omega.{arith}
 use lib.Pow.{pow-add}
 use Rattle.walk.specs.Fold.{sum}
@@ -71,7 +72,10 @@ module _ (P : Process) (c whole top least greatest : ℕ) (claim rank : ℕ → 
     -- a claim of 0 and a stop's claim miss nothing
     settled : (σ : Strategy) (k s M : ℕ) → Within s
         → (claim s * (P .base ^ k * M) ≤ c * stepped P σ k s * M) ⊎ ((0 < claim s) × (P .stops s ≡ false))
-    settled σ k s M w = ⊎-elim (λ (z : claim s ≤ 0). inl (omega (arith, mul-le-mul-right (P .base ^ k * M) z))) (λ l. by l (P .stops s) refl) (at-end 0 (claim s))
+    settled σ k s M w = ⊎-elim
+        (λ (z : claim s ≤ 0). inl (omega (arith, mul-le-mul-right (P .base ^ k * M) z)))
+        (λ l. by l (P .stops s) refl)
+        (at-end 0 (claim s))
       where
         by : 0 < claim s → (b : Bool) → P .stops s ≡ b → (claim s * (P .base ^ k * M) ≤ c * stepped P σ k s * M) ⊎ ((0 < claim s) × (P .stops s ≡ false))
         by l true e = inl (rw (stepped-stop P σ s k e) (omega (arith, mul-le-mul-left (P .base ^ k * M) (h .at-stop s w e))))
@@ -106,7 +110,8 @@ module _ (P : Process) (c whole top least greatest : ℕ) (claim rank : ℕ → 
       stays j = h .closed .stays s (σ [] s) j w e (o [] s w e)
 
       -- each branch meets what is due, over a scale greater by one factor
-      each : (b M : ℕ) → Bounded b M k → (j : ℕ) → P .lo (σ [] s) ≤ j → j < P .hi (σ [] s) → due σ k s (M * greatest) j ≤ met σ k s (b * greatest) (M * greatest) j
+      each : (b M : ℕ) → Bounded b M k → (j : ℕ) → P .lo (σ [] s) ≤ j → j < P .hi (σ [] s)
+          → due σ k s (M * greatest) j ≤ met σ k s (b * greatest) (M * greatest) j
       each b M all j l u = a-branch c (P .base ^ k) M b greatest (P .weight (σ [] s) j) (claim (P .destination j)) _
           (all (later σ s) (λ history. o (_ ∷ history)) (P .destination j) (stays j l u))
 
@@ -116,7 +121,8 @@ module _ (P : Process) (c whole top least greatest : ℕ) (claim rank : ℕ → 
           ≤ sum (met σ k s (b * greatest) (M * greatest)) (P .lo (σ [] s)) (P .hi (σ [] s))
       fallen b M x r near all p ranked =
           let f = h .falls s (σ [] s) w e p (o [] s w e) in
-          sum-room (due σ k s (M * greatest)) (met σ k s (b * greatest) (M * greatest)) (P .base ^ suc k * (x * least)) (P .hi (σ [] s)) (f .0) (P .lo (σ [] s)) (f .1) (f .2)
+          sum-room (due σ k s (M * greatest)) (met σ k s (b * greatest) (M * greatest)) (P .base ^ suc k * (x * least))
+          (P .hi (σ [] s)) (f .0) (P .lo (σ [] s)) (f .1) (f .2)
           (each b M all)
           (rw (pow-suc (P .base) k)
           (a-fall c (P .base) (P .base ^ k) M b x least greatest (P .weight (σ [] s) (f .0)) (claim (P .destination (f .0))) _ (f .4)
@@ -129,7 +135,7 @@ module _ (P : Process) (c whole top least greatest : ℕ) (claim rank : ℕ → 
         (λ g. omega (
           arith,
           step σ o s w (g .1) k (b * greatest) (M * greatest) 0
-              (omega (arith, sum-le (due σ k s (M * greatest)) (met σ k s (b * greatest) (M * greatest)) (P .hi (σ [] s)) (P .lo (σ [] s)) (each σ o s w (g .1) k b M all))),
+              (omega (arith, sum-le _ _ (P .hi (σ [] s)) (P .lo (σ [] s)) (each σ o s w (g .1) k b M all))),
         ))
         (settled σ (suc k) s (M * greatest) w)
 
@@ -137,7 +143,7 @@ module _ (P : Process) (c whole top least greatest : ℕ) (claim rank : ℕ → 
     closer : (b M x r k : ℕ) → x ≤ b → Bounded b M k → Closer b M x r k → Closer (b * greatest) (M * greatest) (x * least) (suc r) (suc k)
     closer b M x r k l all near σ o s w ranked = ⊎-elim
         (λ z. add-le-add z (mul-le-mul-left (P .base ^ suc k) (mul-le-mul l (h .part))))
-        (λ g. step σ o s w (g .1) k (b * greatest) (M * greatest) (P .base ^ suc k * (x * least)) (fallen σ o s w (g .1) k b M x r near all (g .0) (ranked (g .0))))
+        (λ g. step σ o s w (g .1) k (b * greatest) (M * greatest) _ (fallen σ o s w (g .1) k b M x r near all (g .0) (ranked (g .0))))
         (settled σ (suc k) s (M * greatest) w)
 
     -- at rank 0 there are only stops and claims of 0
@@ -150,14 +156,17 @@ module _ (P : Process) (c whole top least greatest : ℕ) (claim rank : ℕ → 
     -- a bound after r more steps
     kept-for : (b M k r : ℕ) → Bounded b M k → Bounded (b * greatest ^ r) (M * greatest ^ r) (k + r)
     kept-for b M k zero all = rw (pow-zero greatest, mul-one b, mul-one M, add-zero k) all
-    kept-for b M k (suc r) all = rw (one-more b greatest r, one-more M greatest r, add-suc k r) (kept (b * greatest ^ r) (M * greatest ^ r) (k + r) (kept-for b M k r all))
+    kept-for b M k (suc r) all =
+        rw (one-more b greatest r, one-more M greatest r, add-suc k r)
+        (kept (b * greatest ^ r) (M * greatest ^ r) (k + r) (kept-for b M k r all))
 
     -- the claims of ranks up to r are closer after r more steps
     closer-for : (b M k r : ℕ) → Bounded b M k → Closer (b * greatest ^ r) (M * greatest ^ r) (b * least ^ r) r (k + r)
     closer-for b M k zero all = rw (pow-zero greatest, pow-zero least, mul-one b, mul-one M, add-zero k) (lowest b M k)
     closer-for b M k (suc r) all =
         rw (one-more b greatest r, one-more M greatest r, one-more b least r, add-suc k r)
-        (closer (b * greatest ^ r) (M * greatest ^ r) (b * least ^ r) r (k + r) (mul-le-mul-left b (pow-le-pow-left (h .part) r)) (kept-for b M k r all) (closer-for b M k r all))
+        (closer (b * greatest ^ r) (M * greatest ^ r) (b * least ^ r) r (k + r)
+        (mul-le-mul-left b (pow-le-pow-left (h .part) r)) (kept-for b M k r all) (closer-for b M k r all))
 
     -- a round of top steps leaves one part of what was missed
     round : (b M k : ℕ) → Bounded b M k → Bounded (b * (greatest ^ top - least ^ top)) (M * greatest ^ top) (k + top)
@@ -181,4 +190,6 @@ module _ (P : Process) (c whole top least greatest : ℕ) (claim rank : ℕ → 
     pub missed-by : (σ : Strategy) → Obeys P Within Allowed σ → (m s : ℕ) → Within s
         → (claim s * P .base ^ (m * top) - c * stepped P σ (m * top) s) * greatest ^ (top * m)
         ≤ whole * P .base ^ (m * top) * (greatest ^ top - least ^ top) ^ m
-    missed-by σ o m s w = by-difference (claim s) (P .base ^ (m * top)) (c * stepped P σ (m * top) s) (greatest ^ (top * m)) whole ((greatest ^ top - least ^ top) ^ m) (missed σ o m s w)
+    missed-by σ o m s w =
+        by-difference (claim s) (P .base ^ (m * top)) (c * stepped P σ (m * top) s) (greatest ^ (top * m))
+        whole ((greatest ^ top - least ^ top) ^ m) (missed σ o m s w)

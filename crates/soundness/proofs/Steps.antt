@@ -31,6 +31,7 @@ module _ (P : Process) (σ : Strategy) (s : ℕ) where
   stepped-start e = rw e
 
   pub stepped-step : (k : ℕ) → P .stops s ≡ false
-      → stepped P σ (suc k) s ≡ P .base ^ suc k * P .gain s + sum (λ j. P .weight (σ [] s) j * stepped P (later σ s) k (P .destination j)) (P .lo (σ [] s)) (P .hi (σ [] s))
+      → stepped P σ (suc k) s ≡ P .base ^ suc k * P .gain s
+      + sum (λ j. P .weight (σ [] s) j * stepped P (later σ s) k (P .destination j)) (P .lo (σ [] s)) (P .hi (σ [] s))
   unfolding stepped
   stepped-step k e = rw e

@@ -36,4 +36,5 @@ stepped P σ zero s = cond (P .stops s) (P .base ^ 0 * P .worth s) 0
 stepped P σ (suc k) s =
     cond (P .stops s) (P .base ^ suc k * P .worth s)
     (P .base ^ suc k * P .gain s
-    + sum (λ j. P .weight (σ [] s) j * stepped P (after σ (record { state = s; action = σ [] s })) k (P .destination j)) (P .lo (σ [] s)) (P .hi (σ [] s)))
+    + sum (λ j. P .weight (σ [] s) j * stepped P (after σ (record { state = s; action = σ [] s })) k (P .destination j))
+    (P .lo (σ [] s)) (P .hi (σ [] s)))

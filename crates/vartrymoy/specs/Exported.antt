@@ -26,7 +26,14 @@ numberOf kind t u choices answer =
     (number (then (refusalOf kind t u (length choices)) (Refused 5 0)))
 
 -- the check as exported: an answer list that is not 4 long is left alone, and so is the choice list then
-pub record CheckedInto (kind : ℕ) (t : Model) (u : Claim) (before answer-before : List ℕ) (r : ℕ) (after answer-after : List ℕ) : Type 0 where
+pub record CheckedInto
+    (kind : ℕ)
+    (t : Model)
+    (u : Claim)
+    (before answer-before : List ℕ)
+    (r : ℕ)
+    (after answer-after : List ℕ)
+    : Type 0 where
   pub result : r ≡ numberOf kind t u before answer-before
   pub choices : after ≡ cond (eqb (length answer-before) 4) (choicesOf kind t u before) before
   pub answer : answer-after ≡ cond (eqb (length answer-before) 4) (numbersOf (answerOf kind t u before)) answer-before

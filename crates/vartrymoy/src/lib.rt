@@ -10,9 +10,9 @@ ghost use Rattle.vartrymoy.specs.Answered.{loaded, listsRight, FileAnswe
 ghost use Rattle.vartrymoy.specs.Exported.{numbersOf, CheckedInto};
 ghost use Rattle.vartrymoy.specs.Filled.{numberOr, headerAfter, FileReadInto};
 ghost use Rattle.vartrymoy.specs.Written.{writtenOr, pairOf, FileWrittenInto};
-use certfile::Lengths;
 use certfile::Outcome;
 use model::Answer;
+use model::Lengths;
 use model::Rank;
 use model::Refusal;
 use model::Verdict;
@@ -88,7 +88,11 @@ pub extern "C" fn vartrymoy_check(
     choices: &mut [u32],
     answer: &mut [u32],
 ) -> u32
-    ensures { λ r. ⌜ CheckedInto kind (modelOf d (now (marks .entry)) (now («action_starts» .entry)) (now («branch_starts» .entry)) (now (destinations .entry)) (now (weights .entry))) (claimOf c (now (costs .entry)) (now (claims .entry)) (now (ranks .entry))) (now (choices .entry)) (now (answer .entry)) r (now (choices .exit)) (now (answer .exit)) ⌝ }
+    ensures { λ r.
+        let t = modelOf d (now (marks .entry)) (now («action_starts» .entry)) (now («branch_starts» .entry))
+        (now (destinations .entry)) (now (weights .entry)) in
+        let u = claimOf c (now (costs .entry)) (now (claims .entry)) (now (ranks .entry)) in
+        ⌜ CheckedInto kind t u (now (choices .entry)) (now (answer .entry)) r (now (choices .exit)) (now (answer .exit)) ⌝ }
 {
     if answer.len() != AnswerList::COUNT {
         let refusal = checker::refuse(
@@ -173,10 +177,12 @@ pub extern "C" fn vartrymoy_read(
     claims: &mut [u64],
     ranks: &mut [u32],
 ) -> u32
-    ensures { λ r. ⌜ FileReadInto (now (file .entry)) (now (header .entry))
-        (tables (now (marks .entry)) (now («action_starts» .entry)) (now («branch_starts» .entry)) (now (destinations .entry)) (now (weights .entry)) (now (costs .entry)) (now (claims .entry)) (now (ranks .entry)))
-        r (now (header .exit))
-        (tables (now (marks .exit)) (now («action_starts» .exit)) (now («branch_starts» .exit)) (now (destinations .exit)) (now (weights .exit)) (now (costs .exit)) (now (claims .exit)) (now (ranks .exit))) ⌝ }
+    ensures { λ r.
+        let before = tables (now (marks .entry)) (now («action_starts» .entry)) (now («branch_starts» .entry))
+        (now (destinations .entry)) (now (weights .entry)) (now (costs .entry)) (now (claims .entry)) (now (ranks .entry)) in
+        let after = tables (now (marks .exit)) (now («action_starts» .exit)) (now («branch_starts» .exit))
+        (now (destinations .exit)) (now (weights .exit)) (now (costs .exit)) (now (claims .exit)) (now (ranks .exit)) in
+        ⌜ FileReadInto (now (file .entry)) (now (header .entry)) before r (now (header .exit)) after ⌝ }
 {
     if header.len() != HeaderList::COUNT {
         let room = Lengths {
@@ -188,6 +194,7 @@ pub extern "C" fn vartrymoy_read(
             costs: costs.len(),
             claims: claims.len(),
             ranks: ranks.len(),
+            choices: 0,
         };
         return number_or(certfile::preview(file, room), Refusal::LENGTH);
     }
@@ -260,7 +267,11 @@ pub extern "C" fn vartrymoy_write(
     buffer: &mut [u8],
     result: &mut [u64],
 ) -> u32
-    ensures { λ r. ⌜ FileWrittenInto kind (modelOf d (now (marks .entry)) (now («action_starts» .entry)) (now («branch_starts» .entry)) (now (destinations .entry)) (now (weights .entry))) (claimOf c (now (costs .entry)) (now (claims .entry)) (now (ranks .entry))) (now (buffer .entry)) (now (result .entry)) r (now (buffer .exit)) (now (result .exit)) ⌝ }
+    ensures { λ r.
+        let t = modelOf d (now (marks .entry)) (now («action_starts» .entry)) (now («branch_starts» .entry))
+        (now (destinations .entry)) (now (weights .entry)) in
+        let u = claimOf c (now (costs .entry)) (now (claims .entry)) (now (ranks .entry)) in
+        ⌜ FileWrittenInto kind t u (now (buffer .entry)) (now (result .entry)) r (now (buffer .exit)) (now (result .exit)) ⌝ }
 {
     if result.len() != ResultList::COUNT {
         let would = writer::preview(

@@ -115,6 +115,15 @@ module _ (p : ℕ → Bool) (hi : ℕ) where
       by (inr a) q = absurd (clash (first p lo hi) (s .hit (omega (arith, r .high))) (r .passed (first p lo hi) (s .low) a))
       by (inl a) (inr b) = absurd (clash k (r .hit (omega (arith, s .high))) (s .passed k (r .low) b))
 
+-- tests that agree between lo and hi have the same first index
+pub first-same : (p q : ℕ → Bool) (hi lo : ℕ) → ((i : ℕ) → lo ≤ i → i < hi → p i ≡ q i) → first p lo hi ≡ first q lo hi
+first-same p q hi = down
+    (λ lo. ((i : ℕ) → lo ≤ i → i < hi → p i ≡ q i) → first p lo hi ≡ first q lo hi) hi
+    (λ i h k. rw (first-end p i hi h, first-end q i hi h))
+    (λ i h ih k.
+    let b : first p (i + 1) hi ≡ first q (i + 1) hi = ih (λ j u v. k j (omega arith) v) in
+    rw (first-step p i hi h, first-step q i hi h, k i (le-refl i) h, b))
+
 module _ (f : ℕ → ℕ) where
   pub sum-end : (lo hi : ℕ) → hi ≤ lo → sum f lo hi ≡ 0
   unfolding sum

@@ -10,6 +10,7 @@ use Rattle.wire.specs.Blocks.{blockOf, numbers, overwritten}
 abbrev pub Reading : ℕ → List ℕ → ℕ → List ℕ → ℕ → ℕ → List ℕ → Type 0
 Reading width file at start count i now = Filling (λ k. word width file (at + k * width)) start count i now
 
-pub all-read : (width : ℕ) (file : List ℕ) (at : ℕ) {count i : ℕ} {start now : List ℕ} → Reading width file at start count i now → count ≤ i → now ≡ overwritten (blockOf width count) file at start
+pub all-read : (width : ℕ) (file : List ℕ) (at : ℕ) {count i : ℕ} {start now : List ℕ}
+    → Reading width file at start count i now → count ≤ i → now ≡ overwritten (blockOf width count) file at start
 unfolding overwritten numbers
 all-read width file at w h = fill-end w h

@@ -2,7 +2,8 @@
 use mathlib.Core.Path.{_≡_, refl, sym, ap, ap₂, _∙_}
 use mathlib.Core.List.{List, [], _∷_, _++_, append-assoc}
 use Prim.Native.Nat.{ℕ, zero, suc, _+_, _*_, _/_, _%_, _^_, _≤_, _<_}
-use native.Mathlib.Nat.{zero-lt-suc, one-le-pow, pow-suc, mul-comm, mul-zero, add-zero, mul-assoc, mod-one, mod-eq-of-lt, mul-add-div-right, mul-add-mod-self-right}
+use native.Mathlib.Nat.{zero-lt-suc, one-le-pow, pow-suc, mul-comm, mul-zero, add-zero, mul-assoc}
+use native.Mathlib.Nat.{mod-one, mod-eq-of-lt, mul-add-div-right, mul-add-mod-self-right}
 use native.Mathlib.Numerals.{add-one}
 use native.Mathlib.Omega.{arith}
 use lib.Arith.{digits-lt, digits-div, mod-mul}
@@ -56,7 +57,8 @@ unfolding word
 word-lt zero file at h = zero-lt-suc 0
 word-lt (suc width) file at h = rw (power width) (digits-lt (h at) (word-lt width file (at + 1) h))
 
-pub bytes-word : (width : ℕ) (file : List ℕ) (at : ℕ) → ((i : ℕ) → getD file i 0 < 256) → at + width ≤ length file → bytes width (word width file at) ≡ take width (drop at file)
+pub bytes-word : (width : ℕ) (file : List ℕ) (at : ℕ) → ((i : ℕ) → getD file i 0 < 256) → at + width ≤ length file
+    → bytes width (word width file at) ≡ take width (drop at file)
 unfolding bytes word
 bytes-word zero file at h l = refl
 bytes-word (suc width) file at h l =
@@ -77,7 +79,8 @@ numbers-none : (width : ℕ) (file : List ℕ) (at : ℕ) → numbers (blockOf w
 unfolding numbers
 numbers-none width file at = refl
 
-numbers-more : (width count : ℕ) (file : List ℕ) (at : ℕ) → numbers (blockOf width (suc count)) file at ≡ word width file at ∷ numbers (blockOf width count) file (at + width)
+numbers-more : (width count : ℕ) (file : List ℕ) (at : ℕ)
+    → numbers (blockOf width (suc count)) file at ≡ word width file at ∷ numbers (blockOf width count) file (at + width)
 unfolding numbers
 numbers-more width count file at =
     rw (← add-one count)
@@ -94,7 +97,8 @@ pub numbers-at : (x : Block) (file : List ℕ) (at j : ℕ) → j < x .count →
 unfolding numbers
 numbers-at x file at j h = listed-at (λ i. word (x .width) file (at + i * x .width)) 0 (x .count) 0 j (omega arith) ∙ ap (word (x .width) file) (omega arith)
 
-pub numbers-spelled : (width : ℕ) (xs before after : List ℕ) → ((j : ℕ) → getD xs j 0 < 256 ^ width) → numbers (blockOf width (length xs)) (before ++ (spelled width xs ++ after)) (length before) ≡ xs
+pub numbers-spelled : (width : ℕ) (xs before after : List ℕ) → ((j : ℕ) → getD xs j 0 < 256 ^ width)
+    → numbers (blockOf width (length xs)) (before ++ (spelled width xs ++ after)) (length before) ≡ xs
 unfolding spelled
 numbers-spelled width [] before after h = numbers-none width (before ++ after) (length before)
 numbers-spelled width (x ∷ xs) before after h =
@@ -110,7 +114,8 @@ numbers-spelled width (x ∷ xs) before after h =
 front : (n m at : ℕ) (file : List ℕ) → take n (drop at file) ++ take m (drop (at + n) file) ≡ take (n + m) (drop at file)
 front n m at file = rw (take-add n m (drop at file), drop-drop n at file)
 
-spelled-front : (width count : ℕ) (file : List ℕ) (at : ℕ) → ((i : ℕ) → getD file i 0 < 256) → at + width * count ≤ length file → spelled width (numbers (blockOf width count) file at) ≡ take (width * count) (drop at file)
+spelled-front : (width count : ℕ) (file : List ℕ) (at : ℕ) → ((i : ℕ) → getD file i 0 < 256) → at + width * count ≤ length file
+    → spelled width (numbers (blockOf width count) file at) ≡ take (width * count) (drop at file)
 unfolding spelled
 spelled-front width zero file at h l = rw (numbers-none width file at, mul-zero width)
 spelled-front width (suc count) file at h l =
@@ -119,7 +124,8 @@ spelled-front width (suc count) file at h l =
     (ap₂ _++_ (bytes-word width file at h (omega arith)) (spelled-front width count file (at + width) h (omega arith))
     ∙ front width (width * count) at file)
 
-pub spelled-numbers : (x : Block) (file : List ℕ) (at : ℕ) → ((i : ℕ) → getD file i 0 < 256) → at + x .width * x .count ≤ length file → spelled (x .width) (numbers x file at) ≡ take (x .width * x .count) (drop at file)
+pub spelled-numbers : (x : Block) (file : List ℕ) (at : ℕ) → ((i : ℕ) → getD file i 0 < 256) → at + x .width * x .count ≤ length file
+    → spelled (x .width) (numbers x file at) ≡ take (x .width * x .count) (drop at file)
 spelled-numbers x = spelled-front (x .width) (x .count)
 
 -- bytes spelled in one byte each are themselves
@@ -130,11 +136,14 @@ bytes-spelled (x ∷ xs) h = ap₂ _∷_ (omega (arith, h 0)) (bytes-spelled xs 
 
 -- over sections: what is written is read back
 
-pub read-written : (xs : List Section) → ((i j : ℕ) → getD (section xs i .numbers) j 0 < 256 ^ (section xs i .width)) → (before after : List ℕ) (i : ℕ) → numbers (block (blocksOf xs) i) (before ++ (written xs ++ after)) (length before + place (blocksOf xs) i) ≡ section xs i .numbers
+pub read-written : (xs : List Section) → ((i j : ℕ) → getD (section xs i .numbers) j 0 < 256 ^ (section xs i .width))
+    → (before after : List ℕ) (i : ℕ)
+    → numbers (block (blocksOf xs) i) (before ++ (written xs ++ after)) (length before + place (blocksOf xs) i) ≡ section xs i .numbers
 unfolding section blocksOf block place written
 read-written [] h before after i = numbers-none 0 _ _
 read-written (x ∷ xs) h before after zero =
-    ap₂ (λ (l : List ℕ) (n : ℕ). numbers (filled x) (before ++ l) n) (append-assoc (spelled (x .width) (x .numbers)) (written xs) after) (add-zero (length before))
+    let s = spelled (x .width) (x .numbers) in
+    ap₂ (λ (l : List ℕ) (n : ℕ). numbers (filled x) (before ++ l) n) (append-assoc s (written xs) after) (add-zero (length before))
     ∙ numbers-spelled (x .width) (x .numbers) before (written xs ++ after) (h 0)
 read-written (x ∷ xs) h before after (suc i) =
     let s = spelled (x .width) (x .numbers) in
@@ -142,7 +151,8 @@ read-written (x ∷ xs) h before after (suc i) =
     ∙ read-written xs (λ k. h (suc k)) (before ++ s) after i
 
 -- over blocks: what is read is written back
-pub written-read : (xs : List Block) (file : List ℕ) → ((i : ℕ) → getD file i 0 < 256) → (at : ℕ) → at + size xs ≤ length file → written (sectionsIn xs file at) ≡ take (size xs) (drop at file)
+pub written-read : (xs : List Block) (file : List ℕ) → ((i : ℕ) → getD file i 0 < 256) → (at : ℕ) → at + size xs ≤ length file
+    → written (sectionsIn xs file at) ≡ take (size xs) (drop at file)
 unfolding written sectionsIn size
 written-read [] file h at l = refl
 written-read (x ∷ xs) file h at l =

@@ -26,7 +26,9 @@ spelled-length width (x ∷ xs) = length-append (bytes width x) (spelled width x
 pub written-length : (xs : List Section) → length (written xs) ≡ size (blocksOf xs)
 unfolding written size blocksOf
 written-length [] = refl
-written-length (x ∷ xs) = length-append (spelled (x .width) (x .numbers)) (written xs) ∙ omega (arith, spelled-length (x .width) (x .numbers), written-length xs)
+written-length (x ∷ xs) =
+    length-append (spelled (x .width) (x .numbers)) (written xs)
+    ∙ omega (arith, spelled-length (x .width) (x .numbers), written-length xs)
 
 spelled-none : (width : ℕ) → spelled width [] ≡ []
 unfolding spelled
@@ -56,16 +58,19 @@ spell-start width table t start =
     record { high = omega arith; done = []; put = record { next = sym (add-zero start); text = refl }; place = omega arith; whole = refl }
 
 module _ {width : ℕ} {table t : List ℕ} {start i at : ℕ} {now : List ℕ} (w : Spelling width table t start i at now) where
-  pub spell-pass : {now′ : List ℕ} {at′ : ℕ} → i < length table → Put now now′ at at′ (bytes width (getD table i 0)) → Spelling width table t start (i + 1) at′ now′
+  pub spell-pass : {now′ : List ℕ} {at′ : ℕ} → i < length table → Put now now′ at at′ (bytes width (getD table i 0))
+      → Spelling width table t start (i + 1) at′ now′
   spell-pass h p =
+      let x = getD table i 0 in
+      let rest = drop (i + 1) table in
       record {
         high = omega arith;
-        done = w .done ++ bytes width (getD table i 0);
+        done = w .done ++ bytes width x;
         put = put-then (w .put) p;
-        place = omega (arith, p .next, bytes-length width (getD table i 0), w .place);
+        place = omega (arith, p .next, bytes-length width x, w .place);
         whole =
-            append-assoc (w .done) (bytes width (getD table i 0)) (spelled width (drop (i + 1) table))
-            ∙ ap (λ (l : List ℕ). w .done ++ l) (sym (ap (spelled width) (drop-cons table i 0 h ∙ rw (add-one i)) ∙ spelled-cons width (getD table i 0) (drop (i + 1) table)))
+            append-assoc (w .done) (bytes width x) (spelled width rest)
+            ∙ ap (λ (l : List ℕ). w .done ++ l) (sym (ap (spelled width) (drop-cons table i 0 h ∙ rw (add-one i)) ∙ spelled-cons width x rest))
             ∙ w .whole;
       }
 

@@ -42,11 +42,16 @@ module _ (file : List ℕ) (at : ℕ) where
       let f : at + 3 ≡ at + 1 + 1 + 1 = omega arith in
       rw (e, f) (omega arith)
 
+  -- byte by byte, the lowest first
+  little-nested : little 4 file at
+      ≡ getD file at 0 + 256 * (getD file (at + 1) 0 + 256 * (getD file (at + 1 + 1) 0 + 256 * getD file (at + 1 + 1 + 1) 0))
+  unfolding little
+  little-nested = omega arith
+
   pub word-reversed : ((i : ℕ) → getD file i 0 < 256) → reversed (little 4 file at) ≡ word 4 file at
-  unfolding word little
+  unfolding word
   word-reversed bytes =
-      let e : little 4 file at ≡ getD file at 0 + 256 * (getD file (at + 1) 0 + 256 * (getD file (at + 1 + 1) 0 + 256 * getD file (at + 1 + 1 + 1) 0)) = omega arith in
-      rw e (turned _ _ _ _ (bytes at) (bytes (at + 1)) (bytes (at + 1 + 1)) (bytes (at + 1 + 1 + 1)) ∙ omega arith)
+      rw little-nested (turned _ _ _ _ (bytes at) (bytes (at + 1)) (bytes (at + 1 + 1)) (bytes (at + 1 + 1 + 1)) ∙ omega arith)
 
   pub word-joined : word 8 file at ≡ word 4 file at * 4294967296 + word 4 file (at + 4)
   unfolding word

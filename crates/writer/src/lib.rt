@@ -66,8 +66,14 @@ fn put(
     ranks: &[u32],
     file: &mut [u8],
 )
-    requires { ⌜ Room h bytes (modelOf (h .d) (now marks) (now «action_starts») (now «branch_starts») (now destinations) (now weights)) (claimOf (h .c) (now costs) (now claims) (now ranks)) (now file) ⌝ }
-    ensures { λ _. ⌜ now (file .exit) ≡ overlaid (written (sections h (modelOf (h .d) (now (marks .entry)) (now («action_starts» .entry)) (now («branch_starts» .entry)) (now (destinations .entry)) (now (weights .entry))) (claimOf (h .c) (now (costs .entry)) (now (claims .entry)) (now (ranks .entry))))) (now (file .entry)) ⌝ }
+    requires { let t = modelOf (h .d) (now marks) (now «action_starts») (now «branch_starts») (now destinations) (now weights) in
+        let u = claimOf (h .c) (now costs) (now claims) (now ranks) in
+        ⌜ Room h bytes t u (now file) ⌝ }
+    ensures { λ _.
+        let t = modelOf (h .d) (now (marks .entry)) (now («action_starts» .entry)) (now («branch_starts» .entry))
+        (now (destinations .entry)) (now (weights .entry)) in
+        let u = claimOf (h .c) (now (costs .entry)) (now (claims .entry)) (now (ranks .entry)) in
+        ⌜ now (file .exit) ≡ overlaid (written (sections h t u)) (now (file .entry)) ⌝ }
 {
     let at = head(file, h, bytes);
     let at = wire::copy8(file, at, marks);
@@ -114,7 +120,11 @@ pub fn preview(
     ranks: &[u32],
     buffer: usize,
 ) -> Written
-    ensures { λ r. ⌜ r ≡ writtenOf kind (modelOf d (now (marks .entry)) (now («action_starts» .entry)) (now («branch_starts» .entry)) (now (destinations .entry)) (now (weights .entry))) (claimOf c (now (costs .entry)) (now (claims .entry)) (now (ranks .entry))) buffer ⌝ }
+    ensures { λ r.
+        let t = modelOf d (now (marks .entry)) (now («action_starts» .entry)) (now («branch_starts» .entry))
+        (now (destinations .entry)) (now (weights .entry)) in
+        let u = claimOf c (now (costs .entry)) (now (claims .entry)) (now (ranks .entry)) in
+        ⌜ r ≡ writtenOf kind t u buffer ⌝ }
 {
     let chosen = model::choice_count(kind, marks.len());
     let v = checker::refuse(
@@ -166,7 +176,11 @@ pub fn write(
     ranks: &[u32],
     buffer: &mut [u8],
 ) -> Written
-    ensures { λ r. ⌜ WrittenInto r kind (modelOf d (now (marks .entry)) (now («action_starts» .entry)) (now («branch_starts» .entry)) (now (destinations .entry)) (now (weights .entry))) (claimOf c (now (costs .entry)) (now (claims .entry)) (now (ranks .entry))) (now (buffer .entry)) (now (buffer .exit)) ⌝ }
+    ensures { λ r.
+        let t = modelOf d (now (marks .entry)) (now («action_starts» .entry)) (now («branch_starts» .entry))
+        (now (destinations .entry)) (now (weights .entry)) in
+        let u = claimOf c (now (costs .entry)) (now (claims .entry)) (now (ranks .entry)) in
+        ⌜ WrittenInto r kind t u (now (buffer .entry)) (now (buffer .exit)) ⌝ }
 {
     let written = preview(
         kind,

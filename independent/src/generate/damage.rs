@@ -2,12 +2,12 @@
 
 use super::model::kind_of;
 use super::rng::Rng;
-use crate::check::{
+use crate::file::{set_length_field, Certificate, HEADER_BYTES};
+use crate::program::Room;
+use crate::tables::{
     MAX_ACTIONS, MAX_BRANCHES, MAX_CLAIM_SCALE, MAX_COST, MAX_COST_CLAIM, MAX_STATES,
     MAX_WEIGHT_SCALE, NONE,
 };
-use crate::file::{set_length_field, Certificate, HEADER_BYTES};
-use crate::program::Room;
 
 const VERSION_PLACE: usize = 4;
 const KIND_PLACE: usize = 5;

@@ -1,9 +1,9 @@
 //! Large tables with a claim that is accepted: every state has five actions
 //! and every action ten branches, so that a million branches reach all limits.
 
-use crate::check::{MAX_CLAIM_SCALE, MAX_COST_CLAIM, MAX_WEIGHT_SCALE};
 use crate::file::Certificate;
 use crate::kind::Kind;
+use crate::tables::{MAX_CLAIM_SCALE, MAX_COST_CLAIM, MAX_WEIGHT_SCALE};
 
 const ACTIONS_OF_STATE: usize = 5;
 const BRANCHES_OF_ACTION: usize = 10;

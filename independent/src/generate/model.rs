@@ -3,10 +3,10 @@
 use std::ops::Range;
 
 use super::rng::Rng;
-use crate::check::{MAX_CLAIM_SCALE, MAX_COST, MAX_COST_CLAIM, MAX_WEIGHT_SCALE, NONE};
 use crate::file::Certificate;
 use crate::kind::Kind;
 use crate::program::Room;
+use crate::tables::{MAX_CLAIM_SCALE, MAX_COST, MAX_COST_CLAIM, MAX_WEIGHT_SCALE, NONE};
 
 /// Rounds of iteration after which no fixed point is expected any more.
 const MOST_ROUNDS: usize = 500;

@@ -3,8 +3,8 @@
 
 use super::model::{actions_of, branches_of, kind_of};
 use super::rng::Rng;
-use crate::check::{MAX_COST_CLAIM, NONE};
 use crate::file::Certificate;
+use crate::tables::{MAX_COST_CLAIM, NONE};
 
 /// Changes a claim so that condition `number` may break.
 pub fn miss(rng: &mut Rng, made: &mut Certificate, number: u32) {

@@ -2,11 +2,11 @@
 //! result.
 
 use crate::models::{held, model_a, put, Tables, FILLING, FILLING_LONG, UNTOUCHED};
-use independent::check::NONE;
 use independent::file::{write, Certificate};
 use independent::generate::case;
 use independent::kind::Kind;
 use independent::program::{answer, answer_into, text_bytes, Room};
+use independent::tables::NONE;
 
 const KINDS: std::ops::RangeInclusive<u32> = 1..=8;
 const MOST_BYTES: usize = 8_820_034;

@@ -7,10 +7,10 @@ use std::path::{Path, PathBuf};
 use std::process::{Command, Output, Stdio};
 
 use crate::models::{held, model_a};
-use independent::check::MAX_BRANCHES;
 use independent::file::write;
 use independent::generate::{case, limits};
 use independent::program::{answer, Room};
+use independent::tables::MAX_BRANCHES;
 
 /// A folder that goes when the test ends.
 struct Folder(PathBuf);

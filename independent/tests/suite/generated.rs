@@ -4,12 +4,12 @@
 use std::collections::BTreeMap;
 
 use crate::models::hash;
-use independent::check::{Refusal, Verdict};
 use independent::generate::case;
 use independent::kind::Kind;
 use independent::program::{answer, Room};
 use independent::rewrite::{rewrite, Rewritten};
 use independent::stream::{read_case, write_case};
+use independent::verdict::{Refusal, Verdict};
 
 const CASES: u64 = 2_000;
 const REFUSALS: [u32; 18] = [

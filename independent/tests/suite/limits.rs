@@ -1,12 +1,13 @@
 //! Tables at all limits, and the room that they take.
 
 use crate::models::{hash, held};
-use independent::check::{Verdict, MAX_ACTIONS, MAX_BRANCHES, MAX_STATES, NONE};
 use independent::file::{write, Certificate};
 use independent::generate::case;
 use independent::generate::limits::accepted;
 use independent::kind::Kind;
 use independent::program::{answer, Answer, Desk, Room};
+use independent::tables::{MAX_ACTIONS, MAX_BRANCHES, MAX_STATES, NONE};
+use independent::verdict::Verdict;
 
 const KINDS: std::ops::RangeInclusive<u32> = 1..=8;
 

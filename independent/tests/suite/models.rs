@@ -1,8 +1,10 @@
 //! The small models of document 01, and what the tests share.
 
-use independent::check::{check, Refusal, Verdict, NONE};
+use independent::check::check;
 use independent::file::{read, write_into, Certificate, Header};
 use independent::kind::Kind;
+use independent::tables::NONE;
+use independent::verdict::{Refusal, Verdict};
 
 /// Stands in choice lists that must be left alone.
 pub const UNTOUCHED: u32 = 77;

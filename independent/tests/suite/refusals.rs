@@ -2,8 +2,10 @@
 //! the writer.
 
 use crate::models::{checked, checked_with_choices, held, written, FILLING};
-use independent::check::{rows, Refusal, Verdict, MAX_ACTIONS, MAX_BRANCHES, MAX_STATES};
+use independent::check::rows;
 use independent::file::Certificate;
+use independent::tables::{MAX_ACTIONS, MAX_BRANCHES, MAX_STATES};
+use independent::verdict::{Refusal, Verdict};
 
 fn refused(number: u32, place: u32) -> Verdict {
     Verdict::Refused { number, place }

@@ -1,9 +1,9 @@
 //! The worked cases of document 01.
 
 use crate::models::{checked, held, model_a, model_b, UNTOUCHED};
-use independent::check::NONE;
 use independent::file::{write, Certificate};
 use independent::program::{answer, Room};
+use independent::tables::NONE;
 
 const UNRANKED: &[u32] = &[];
 const SINK: &[u32] = &[1, NONE, 0];

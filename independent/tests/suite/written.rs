@@ -1,10 +1,11 @@
 //! Writing files into a lent buffer.
 
 use crate::models::{checked_with_choices, held, model_a, written, FILLING};
-use independent::check::{Refusal, Verdict, NONE};
 use independent::file::write;
 use independent::program::{answer, Room};
 use independent::rewrite::{rewrite, Rewritten};
+use independent::tables::NONE;
+use independent::verdict::{Refusal, Verdict};
 
 #[test]
 fn the_length_of_a_file_is_given() {

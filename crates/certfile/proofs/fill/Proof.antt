@@ -1,55 +1,67 @@
 -- `certfile::fill` meets its contract: each table is filled from its place on. Assumes nothing.
 use borrow.Author.Needs.{needs}
-use Rattle.certfile.specs.Tables.{tables}
+use Rattle.certfile.specs.Tables.{Tables, tables}
 use Rattle.certfile.proofs.Passed.{Rooms, rooms, all-filled}
 use Rattle.certfile.proofs.fill.Statement.{statement}
 use Rattle.certfile.proofs.fill.Tie as tie
 
-all : (c : tie.After-places-of) →
-    let a = c .before .before .before .before .before .before .before .before .before .before .before .args in
-    Rooms (c .places-of .result) (c .before .counts-of .result) (a .file .now)
-    (tables (a .marks .now) (a .action-starts .now) (a .branch-starts .now) (a .destinations .now) (a .weights .now) (a .costs .now) (a .claims .now) (a .ranks .now))
-all c = rooms _ _ _ _ _ (c .places-of .ensures) (c .before .counts-of .ensures .0) (c .before .before .before .before .before .before .before .before .before .before .before .pre)
+abbrev lists : tie.Start → Tables
+lists c =
+    let a = c .args in
+    tables (a .marks .now) (a .action-starts .now) (a .branch-starts .now) (a .destinations .now) (a .weights .now) (a .costs .now) (a .claims .now)
+    (a .ranks .now)
 
-read8-requires : tie.Need-read8-requires
-read8-requires c κs = all (c .before) .marks
+abbrev start : tie.After-places-of → tie.Start
+start c = c .before .before .before .before .before .before .before .before .before .before .before
 
-read32-requires : tie.Need-read32-requires
-read32-requires c κs = all (c .before .before .before .before .before) .actionStarts
+all : (c : tie.After-places-of) → Rooms (c .places-of .result) (c .before .counts-of .result) (start c .args .file .now) (lists (start c))
+all c = rooms _ _ _ _ _ (c .places-of .ensures) (c .before .counts-of .ensures .0) (start c .pre)
 
-read32-requires-2 : tie.Need-read32-requires-2
-read32-requires-2 c κs = all (c .before .before .before .before .before .before .before .before .before) .branchStarts
+-- what was counted and placed, seen from before each table
+abbrev placed-1 : tie.After-read8-arg → tie.After-places-of
+placed-1 c = c .before
 
-read32-requires-3 : tie.Need-read32-requires-3
-read32-requires-3 c κs = all (c .before .before .before .before .before .before .before .before .before .before .before .before .before) .destinations
+abbrev placed-2 : tie.After-read32-arg → tie.After-places-of
+placed-2 c = placed-1 (c .before .before .before .before)
 
-read32-requires-4 : tie.Need-read32-requires-4
-read32-requires-4 c κs = all (c .before .before .before .before .before .before .before .before .before .before .before .before .before .before .before .before .before) .weights
+abbrev placed-3 : tie.After-read32-arg2 → tie.After-places-of
+placed-3 c = placed-2 (c .before .before .before .before)
 
-read32-requires-5 : tie.Need-read32-requires-5
-read32-requires-5 c κs = all (c .before .before .before .before .before .before .before .before .before .before .before .before .before .before .before .before .before .before .before .before .before) .costs
+abbrev placed-4 : tie.After-read32-arg3 → tie.After-places-of
+placed-4 c = placed-3 (c .before .before .before .before)
 
-read64-requires : tie.Need-read64-requires
-read64-requires c κs = all (c .before .before .before .before .before .before .before .before .before .before .before .before .before .before .before .before .before .before .before .before .before .before .before .before .before) .claims
+abbrev placed-5 : tie.After-read32-arg4 → tie.After-places-of
+placed-5 c = placed-4 (c .before .before .before .before)
 
-read32-requires-6 : tie.Need-read32-requires-6
-read32-requires-6 c κs = all (c .before .before .before .before .before .before .before .before .before .before .before .before .before .before .before .before .before .before .before .before .before .before .before .before .before .before .before .before .before) .ranks
+abbrev placed-6 : tie.After-read32-arg5 → tie.After-places-of
+placed-6 c = placed-5 (c .before .before .before .before)
+
+abbrev placed-7 : tie.After-read64-arg → tie.After-places-of
+placed-7 c = placed-6 (c .before .before .before .before)
+
+abbrev placed-8 : tie.After-read32-arg6 → tie.After-places-of
+placed-8 c = placed-7 (c .before .before .before .before)
 
 returns : tie.Need-returns
 returns c =
-    all-filled _ _ _ _ _ (c .before .before .before .before .before .before .before .before .before .before .before .before .before .before .before .before .before .before .before .before .before .before .before .before .before .before .before .before .before .before .before .before .places-of .ensures) (c .before .before .before .before .before .before .before .before .before .before .before .before .before .before .before .before .before .before .before .before .before .before .before .before .before .before .before .before .before .before .before .before .before .counts-of .ensures .0) (c .before .before .before .before .before .before .before .before .before .before .before .before .before .before .before .before .before .before .before .before .before .before .before .before .before .before .before .before .before .before .before .before .before .before .before .before .before .before .before .before .before .before .before .pre) _
-    (c .before .before .before .before .before .before .before .before .before .before .before .before .before .before .before .before .before .before .before .before .before .before .before .before .before .before .before .before .before .before .read8 .ensures)
-    (c .before .before .before .before .before .before .before .before .before .before .before .before .before .before .before .before .before .before .before .before .before .before .before .before .before .before .read32 .ensures)
-    (c .before .before .before .before .before .before .before .before .before .before .before .before .before .before .before .before .before .before .before .before .before .before .read322 .ensures)
-    (c .before .before .before .before .before .before .before .before .before .before .before .before .before .before .before .before .before .before .read323 .ensures)
-    (c .before .before .before .before .before .before .before .before .before .before .before .before .before .before .read324 .ensures)
-    (c .before .before .before .before .before .before .before .before .before .before .read325 .ensures)
-    (c .before .before .before .before .before .before .read64 .ensures)
-    (c .before .before .read326 .ensures)
+    let ranks = c .before .before in
+    let claims = ranks .before .before .before .before in
+    let costs = claims .before .before .before .before in
+    let weights = costs .before .before .before .before in
+    let destinations = weights .before .before .before .before in
+    let branches = destinations .before .before .before .before in
+    let actions = branches .before .before .before .before in
+    let marks = actions .before .before .before .before in
+    let placed = marks .before .before in
+    all-filled _ _ _ _ _ (placed .places-of .ensures) (placed .before .counts-of .ensures .0) (start placed .pre) _
+    (marks .read8 .ensures) (actions .read32 .ensures) (branches .read322 .ensures) (destinations .read323 .ensures) (weights .read324 .ensures)
+    (costs .read325 .ensures) (claims .read64 .ensures) (ranks .read326 .ensures)
 
 pub fill-spec : {M : Type 1} → statement M
 fill-spec =
     tie.close
-    (tie.spec (λ c κs. search needs) (λ c κs. search needs) read8-requires read32-requires read32-requires-2 read32-requires-3 read32-requires-4 read32-requires-5 read64-requires read32-requires-6
+    (tie.spec (λ c κs. search needs) (λ c κs. search needs)
+    (λ c κs. all (placed-1 c) .marks) (λ c κs. all (placed-2 c) .actionStarts) (λ c κs. all (placed-3 c) .branchStarts) (λ c κs. all (placed-4 c) .destinations)
+    (λ c κs. all (placed-5 c) .weights) (λ c κs. all (placed-6 c) .costs) (λ c κs. all (placed-7 c) .claims) (λ c κs. all (placed-8 c) .ranks)
     (λ c. search needs) (λ c. search needs) (λ c. search needs) (λ c. search needs) (λ c. search needs) (λ c. search needs) (λ c. search needs)
     (λ c. search needs) returns)

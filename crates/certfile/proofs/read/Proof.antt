@@ -9,7 +9,9 @@ returns : tie.Need-returns
 returns c = rw (c .enum-told .given .1) (untouched _ _ _ _ (sym (c .enum-told .given .1) ∙ c .before .before .judge .ensures))
 
 fill-requires : tie.Need-fill-requires
-fill-requires c κs = sym (c .before .before .before .before .before .before .before .before .before .before .before .judge .ensures) ∙ c .before .before .before .before .before .before .before .before .before .outcome .given .1
+fill-requires c κs =
+    let known = c .before .before .before .before .before .before .before .before .before in
+    sym (known .before .before .judge .ensures) ∙ known .outcome .given .1
 
 returns-2 : tie.Need-returns-2
 returns-2 c = c .before .before .before .before .before .before .before .before .before .before .before .before .before .before .before .before .fill .ensures

@@ -15,10 +15,9 @@ returns c =
 
 settle-requires : tie.Need-settle-requires
 settle-requires c κs =
-    let h = goes (c .before .before .accepts .ensures) (c .before .if1 .left) (c .before .before .before .refusals .ensures) in (
-      ready _ _ _ (c .before .before .before .before .before .before .before .before .before .before .before .before .before .args .choices .now) (c .before .before .before .before .before .before .before .before .before .before .before .before .before .pre) h,
-      choices-long _ _ _ (c .before .before .before .before .before .before .before .before .before .before .before .before .before .args .choices .now) h,
-    )
+    let b = c .before .before .before .before .before .before .before .before .before .before .before .before .before in
+    let h = goes (c .before .before .accepts .ensures) (c .before .if1 .left) (c .before .before .before .refusals .ensures) in
+    (ready _ _ _ (b .args .choices .now) (b .pre) h, choices-long _ _ _ (b .args .choices .now) h)
 
 returns-2 : tie.Need-returns-2
 returns-2 c =

@@ -19,19 +19,19 @@ copy-requires c κs =
       arith,
       b .pre .1,
       entries-most (b .args .kind .choices) (length (b .args .marks .now)),
-      b .pre .0 .n-most,
+      b .pre .0 .formed .sized .n-most,
       c .before .before .before .before .before .before .judge .kept,
     )
 
 returns : tie.Need-returns
 returns c =
-    let b = c .before .before .before .before .before .before .before .before .before .before .before .before .before .before .before .before .before .before .before .before .before .before in (
-      c .before .before .before .before .before .before .before .before .before .before .judge .ensures .0,
-      c .before .before .before .copy .ensures
-          ∙ ap (λ (x : List ℕ). take (length (b .args .choices .now)) x)
-          (c .before .before .before .before .before .before .before .before .before .before .judge .ensures .1) ∙ copied _ _ _ _ (b .pre .0 .columns)
-          (b .pre .1) (holds (sym (ap accepts (c .before .before .before .before .before .before .before .before .before .before .judge .ensures .0))
-          ∙ sym (c .before .before .before .before .before .before .before .accepts .ensures) ∙ c .before .before .before .before .before .before .if1 .taken)) _,
+    let g = c .before .before .before .before .before .before in
+    let j = g .before .before .before .before in
+    let b = j .before .before .before .before .before .before .before .before .before .before .before .before in
+    let h = holds (sym (ap accepts (j .judge .ensures .0)) ∙ sym (g .before .accepts .ensures) ∙ g .if1 .taken) in (
+      j .judge .ensures .0,
+      c .before .before .before .copy .ensures ∙ ap (λ (x : List ℕ). take (length (b .args .choices .now)) x) (j .judge .ensures .1)
+          ∙ copied _ _ _ _ (b .pre .0 .columns) (b .pre .1) h _,
     )
 
 returns-2 : tie.Need-returns-2

@@ -2,7 +2,8 @@
 use mathlib.Core.Path.{_≡_, refl}
 use native.Mathlib.Omega.{arith}
 use Rattle.certfile.specs.Tables.{Tables, tables, lent}
-use Rattle.program.proofs.Taken.{lengths-kept, enough, printed-read, printed-refused}
+use Rattle.certfile.proofs.Passed.{lengths-kept}
+use Rattle.program.proofs.Taken.{enough, printed-read, printed-refused}
 use borrow.Author.Needs.{needs}
 use Rattle.program.proofs.answer_within.Statement.{statement}
 use Rattle.program.proofs.answer_within.Tie as tie
@@ -15,56 +16,50 @@ before c =
 
 abbrev after : tie.After-load → Tables
 after c =
-    tables (c .load .last .1 .1 .0) (c .load .last .1 .1 .1 .0) (c .load .last .1 .1 .1 .1 .0) (c .load .last .1 .1 .1 .1 .1 .0)
-    (c .load .last .1 .1 .1 .1 .1 .1 .0) (c .load .last .1 .1 .1 .1 .1 .1 .1 .0) (c .load .last .1 .1 .1 .1 .1 .1 .1 .1 .0)
-    (c .load .last .1 .1 .1 .1 .1 .1 .1 .1 .1 .0)
+    let l = c .load .last .1 .1 in
+    tables (l .0) (l .1 .0) (l .1 .1 .0) (l .1 .1 .1 .0) (l .1 .1 .1 .1 .0) (l .1 .1 .1 .1 .1 .0) (l .1 .1 .1 .1 .1 .1 .0) (l .1 .1 .1 .1 .1 .1 .1 .0)
 
-kept : (c : tie.After-load) → lent (after c) ≡ lent
-    (before (c .before .before .before .before .before .before .before .before .before .before .before .before .before .before .before .before .before
-    .before .before .before))
+abbrev start : tie.After-load → tie.Start
+start c = c .before .before .before .before .before .before .before .before .before .before .before .before .before .before .before .before
+    .before .before .before .before
+
+kept : (c : tie.After-load) → lent (after c) ≡ lent (before (start c))
 kept c =
     let k = c .load .kept in
-    lengths-kept (before (c .before .before .before .before .before .before .before .before .before .before .before .before .before .before .before
-    .before .before .before .before .before)) (after c) (omega (arith, k)) (omega (arith, k)) (omega (arith, k)) (omega (arith, k))
-    (omega (arith, k)) (omega (arith, k)) (omega (arith, k)) (omega (arith, k))
+    lengths-kept (before (start c)) (after c) (omega (arith, k)) (omega (arith, k)) (omega (arith, k)) (omega (arith, k)) (omega (arith, k))
+    (omega (arith, k)) (omega (arith, k)) (omega (arith, k))
+
+-- what was loaded, seen from what the answer is told apart by
+abbrev loaded : tie.After-slice-known18 → tie.After-load
+loaded c = c .before .before .before .before .before .before .before .before .before .before .before .before .before .before .before .before
 
 judged-requires : tie.Need-judged-requires
 judged-requires c κs =
     let known = c .before .before .before .before .before .before .before .before .before .before .before in
-    let loaded = known .before .before .before .before .before .before .before .before .before .before .before .before .before .before .before .before
-    .before .before in
-    enough _ _ _ _ (after loaded) (loaded .load .ensures) _ (known .outcome .given .1) _ _ (kept loaded)
-    (loaded .before .before .before .before .before .before .before .before .before .before .before .before .before .before .before .before
-    .before .before .before .before .pre)
+    let load = loaded (known .before .before) in
+    enough _ _ _ _ (after load) (load .load .ensures) _ (known .outcome .given .1) _ _ (kept load) (start load .pre)
 
 same-length : tie.Need-same-length
-same-length c = omega (
-  arith,
-  c .before .before .before .before .before .before .before .before .before .before .before .before .before .before
-      .before .before .before .before .before .before .before .before .before .before .before .before .before .before .before .before .before .before
-      .before .before .load .kept,
-)
+same-length c =
+    let known = c .before .before .before .before .before .before .before .before .before .before .before .before .before .before .before .before in
+    omega (arith, loaded (known .before .before) .load .kept)
 
 same-length-2 : tie.Need-same-length-2
-same-length-2 c = omega (
-  arith,
-  c .before .before .before .before .before .before .before .before .before .before .before .before .before .before .before .before .before .before
-      .before .before .before .before .before .before .before .before .before .before .before .before .before .before .before .before .load .kept,
-)
+same-length-2 c =
+    let known = c .before .before .before .before .before .before .before .before .before .before .before .before .before .before .before .before in
+    omega (arith, loaded (known .before .before) .load .kept)
 
 returns : tie.Need-returns
 returns c =
     let known = c .before .before .before .before .before .before .before .before .before .before .before .before .before .before .before .before in
-    let loaded = known .before .before .before .before .before .before .before .before .before .before .before .before .before .before .before .before
-    .before .before in
-    printed-read _ _ _ _ (after loaded) (loaded .load .ensures) _ (known .outcome .given .1) _ _ _ _ _ (c .before .before .before .before .judged .ensures)
+    let load = loaded (known .before .before) in
+    printed-read _ _ _ _ (after load) (load .load .ensures) _ (known .outcome .given .1) _ _ _ _ _ (c .before .before .before .before .judged .ensures)
 
 returns-2 : tie.Need-returns-2
 returns-2 c =
     let known = c .before .before .before .before .before in
-    let loaded = known .before .before .before .before .before .before .before .before .before .before .before .before .before .before .before .before
-    .before .before in
-    printed-refused _ _ _ _ (after loaded) (loaded .load .ensures) _ _ (known .outcome2 .given .1) _ _ _ _ refl (c .before .before .refused .ensures)
+    let load = loaded (known .before .before) in
+    printed-refused _ _ _ _ (after load) (load .load .ensures) _ _ (known .outcome2 .given .1) _ _ _ _ refl (c .before .before .refused .ensures)
 
 pub answer-within-spec : {M : Type 1} → statement M
 answer-within-spec =

@@ -22,7 +22,10 @@ line-requires : tie.Need-line-requires Inv-loop μ-loop
 line-requires c κs = omega (arith, put-length (c .before .before .before .loop .inv .put), c .before .before .before .loop .inv .short)
 
 loop-again : tie.Need-loop-again Inv-loop μ-loop
-loop-again c = list-pass (c .before .before .before .before .before .before .loop .inv) (c .before .before .before .before .before .loop-test .taken) (c .before .before .line .ensures .0) (c .before .before .line .ensures .1)
+loop-again c =
+    let put = c .before .before in
+    let test = put .before .before .before in
+    list-pass (test .before .loop .inv) (test .loop-test .taken) (put .line .ensures .0) (put .line .ensures .1)
 
 same-length : tie.Need-same-length Inv-loop μ-loop
 same-length c = put-length (c .before .loop .inv .put)

@@ -8,10 +8,14 @@ use Rattle.rewritten.proofs.told.Statement.{statement}
 use Rattle.rewritten.proofs.told.Tie as tie
 
 slice-aggregate-compared : tie.Need-slice-aggregate-compared
-slice-aggregate-compared c = sym (length-take-le _ _ (c .before .before .before .before .before .before .before .pre .0 _ (c .before .before .answer .given .1)))
+slice-aggregate-compared c =
+    let known = c .before .before in
+    sym (length-take-le _ _ (known .before .before .before .before .before .pre .0 _ (known .answer .given .1)))
 
 compared-requires : tie.Need-compared-requires
-compared-requires c κs = (omega (arith, slice-aggregate-compared (c .before), c .before .before .before .before .before .before .before .before .pre .0 _ (c .before .before .before .answer .given .1)), search needs)
+compared-requires c κs =
+    let known = c .before .before .before in
+    (omega (arith, slice-aggregate-compared (c .before), known .before .before .before .before .before .pre .0 _ (known .answer .given .1)), search needs)
 
 returns-2 : tie.Need-returns-2
 returns-2 c = shown-within (c .before .before .refused .ensures)

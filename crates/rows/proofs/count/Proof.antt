@@ -1,17 +1,18 @@
 -- `rows::count` meets its contract: 6, 7, 8 and the walk, tried in order. Assumes nothing.
-use mathlib.Core.Path.{_≡_, sym, _∙_}
+use mathlib.Core.Path.{_≡_, refl, sym, _∙_}
 use mathlib.Core.List.{[], _∷_}
 use Prim.Native.Nat.{_-_}
 use native.Mathlib.Omega.{arith}
 use borrow.Author.Needs.{needs}
 use lib.Dec.{T}
 use lib.ListN.{length}
-use Rattle.model.specs.Tables.{Model, actions}
+use Rattle.model.specs.Tables.{Model, states, actions}
 use Rattle.model.specs.Answers.{pass, tried}
 use Rattle.model.specs.Checked.{accepts}
 use Rattle.model.specs.Refusals.{startRight, startsTest, marksTest, actionTest, walkTest, rowTests}
 use Rattle.model.proofs.Tried.{goes, stops, tried-go, tried-stop, settled, each-all, all-each, throughout-all}
 use Rattle.model.proofs.Formed.{starts-right}
+use Rattle.rows.specs.Walk.{walkOver}
 use Rattle.rows.proofs.count.Statement.{statement}
 use Rattle.rows.proofs.count.Tie as tie
 
@@ -31,7 +32,8 @@ seven : (c : tie.Else2) →
 seven c = goes (c .before .accepts2 .ensures) (c .if2 .left) (c .before .before .starts-test2 .ensures)
 
 eight : (c : tie.Else3) →
-    T (accepts (marksTest (c .before .before .before .before .before .before .before .before .before .before .before .before .before .before .args .marks .now)))
+    let b = c .before .before .before .before .before .before .before .before .before .before .before .before .before .before in
+    T (accepts (marksTest (b .args .marks .now)))
 eight c = goes (c .before .accepts3 .ensures) (c .if3 .left) (c .before .before .marks-test .ensures)
 
 returns : tie.Need-returns
@@ -58,17 +60,27 @@ returns-3 c =
 walk-test-requires : tie.Need-walk-test-requires
 unfolding startsTest
 walk-test-requires c κs =
-    let b = c .before .before .before .before .before .before .before .before .before .before .before .before .before .before in (
-      b .pre,
-      starts-right (b .args .branch-starts .now) (length (b .args .destinations .now)) (omega (arith, b .pre))
+    let b = c .before .before .before .before .before .before .before .before .before .before .before .before .before .before in
+    record {
+      starts =
+          starts-right (b .args .branch-starts .now) (length (b .args .destinations .now)) (omega (arith, b .pre))
           (throughout-all (startRight (b .args .branch-starts .now) (length (b .args .destinations .now)))
-          (length (b .args .branch-starts .now)) 7 (seven (c .before .before .before))),
-    )
+          (length (b .args .branch-starts .now)) 7 (seven (c .before .before .before)));
+      table3-least = b .pre .table3-least;
+      table3-most = b .pre .table3-most;
+      table4 = b .pre .table4;
+      table5 = b .pre .table5;
+    }
+
+-- the walk over the model's actions is the walk over their tables
+walks : (t : Model) → walkOver (t .d) (states t) (t .branchStarts) (t .destinations) (t .weights) ≡ walkTest t
+unfolding walkOver walkTest actionTest
+walks t = refl
 
 returns-4 : tie.Need-returns-4
 unfolding rowTests
 returns-4 c =
-    c .walk-test .ensures
+    c .walk-test .ensures ∙ walks _
     ∙ sym
     (tried-go _ _ _ (six (c .before .before .before .before .before .before .before)) ∙ tried-go _ _ _ (seven (c .before .before .before .before))
     ∙ tried-go _ _ _ (eight (c .before)) ∙ walk-word _)

@@ -11,7 +11,8 @@ slice-aggregate-read-full c = sym (length-take-le _ _ (search needs))
 
 returns : tie.Need-returns
 returns c =
-    omega (arith, c .before .read-full .ensures .0, c .before .read-full .kept, slice-aggregate-read-full (c .before .before), c .before .before .before .least .ensures)
+    let read = c .before in
+    omega (arith, read .read-full .ensures .0, read .read-full .kept, slice-aggregate-read-full (read .before), read .before .before .least .ensures)
 
 pub dropped-spec : {M : Type 1} → statement M
 dropped-spec =

@@ -53,4 +53,5 @@ pub put-header-spec : {M : Type 1} → statement M
 put-header-spec =
     tie.close
     (tie.spec (λ c. search needs) (λ c. search needs) returns (λ c. search needs) (λ c. search needs) (λ c. search needs) (λ c. search needs)
-    (λ c. fifth (c .before .before .before .args .header .now) (c .before .o .given .0 .0) (c .before .before .before .pre)) (λ c. sixth (c .before .before .before .args .header .now) (c .before .o .given .0 .0) (c .before .before .before .pre)) (λ c. search needs) returns-2)
+    (λ c. fifth (c .before .before .before .args .header .now) (c .before .o .given .0 .0) (c .before .before .before .pre))
+    (λ c. sixth (c .before .before .before .args .header .now) (c .before .o .given .0 .0) (c .before .before .before .pre)) (λ c. search needs) returns-2)

@@ -65,36 +65,40 @@ module _ (right : Bool) (o : Outcome) (file : List ℕ) (before : Tables) (list 
 
 returns : tie.Need-returns
 returns c =
-    let tested = c .before .before .before .before .before .before .before .before .before .before .before .before .before .before .before .before
-    .before .before .before .before .before .before .before .before .before in
-    shut _ _ _ _ _ _ _ (sym (tested .before .lists-right .ensures) ∙ not-true _ (tested .if1 .taken)) _ _
-    (c .before .before .before .before .before .before .before .before .before .before .before .before .before .before .before .before .unprinted
-    .ensures)
+    let answer = c .before .before .before .before .before .before .before .before .before .before .before .before .before .before .before .before in
+    let tested = answer .before .before .before .before .before .before .before .before .before in
+    shut _ _ _ _ _ _ _ (sym (tested .before .lists-right .ensures) ∙ not-true _ (tested .if1 .taken)) _ _ (answer .unprinted .ensures)
 
-right : (c : tie.Else1) → c .before .lists-right .result ≡ true
-right c = not-false _ (c .if1 .left)
+abbrev start : tie.Else1 → tie.Start
+start c = c .before .before .before .before .before .before .before .before .before .before .before .before .before .before
+
+right : (c : tie.Else1) → let a = start c .args in
+    listsRight (length (a .marks .now)) (length (a .choices .now)) (length (a .text .now)) (length (a .result .now)) ≡ true
+right c = sym (c .before .lists-right .ensures) ∙ not-false _ (c .if1 .left)
 
 answer-within-requires : tie.Need-answer-within-requires
 answer-within-requires c κs =
     let tested = c .before .before .before .before .before .before .before .before .before .before in
-    let a = tested .before .before .before .before .before .before .before .before .before .before .before .before .before .before .args in
-    long (length (a .marks .now)) (a .choices .now) (a .text .now) (a .result .now) (sym (tested .before .lists-right .ensures) ∙ right tested)
+    let a = start tested .args in
+    long (length (a .marks .now)) (a .choices .now) (a .text .now) (a .result .now) (right tested)
+
+-- what was answered, seen from where it is put
+abbrev told : tie.After-put-two-arg → tie.After-answer-within
+told c = c .before .before .before .before .before .before .before .before .before .before .before .before .before .before .before .before
+    .before .before .before .before .before .before
 
 put-two-requires : tie.Need-put-two-requires
 put-two-requires c κs =
-    let tested = c .before .before .before .before .before .before .before .before .before .before .before .before .before .before .before .before
-    .before .before .before .before .before .before .before .before .before .before .before .before .before .before .before .before .before in
-    let a = tested .before .before .before .before .before .before .before .before .before .before .before .before .before .before .args in
-    two (length (a .marks .now)) (a .choices .now) (a .text .now) (a .result .now) (sym (tested .before .lists-right .ensures) ∙ right tested)
+    let tested = told c .before .before .before .before .before .before .before .before .before .before .before in
+    let a = start tested .args in
+    two (length (a .marks .now)) (a .choices .now) (a .text .now) (a .result .now) (right tested)
 
 returns-2 : tie.Need-returns-2
 returns-2 c =
-    let tested = c .before .before .before .before .before .before .before .before .before .before .before .before .before .before .before .before
-    .before .before .before .before .before .before .before .before .before .before .before .before .before .before .before .before .before
-    .before .before .before in
-    answered _ _ _ _ _ _ _ (sym (tested .before .lists-right .ensures) ∙ right tested) _ _ _ _ _
-    (c .before .before .before .before .before .before .before .before .before .before .before .before .before .before .before .before .before
-    .before .before .before .before .before .before .before .before .answer-within .ensures) (c .before .before .put-two .ensures)
+    let put = c .before .before in
+    let answer = told (put .before) in
+    answered _ _ _ _ _ _ _ (right (answer .before .before .before .before .before .before .before .before .before .before .before)) _ _ _ _ _
+    (answer .answer-within .ensures) (put .put-two .ensures)
 
 pub vartrymoy-answer-spec : {M : Type 1} → statement M
 vartrymoy-answer-spec =

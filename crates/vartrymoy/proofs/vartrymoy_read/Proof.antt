@@ -22,7 +22,10 @@ module _ (file header : List ℕ) (before : Tables) where
         untouched = λ _. refl;
       }
 
-  opened : length header ≡ 6 → (o : Outcome) (r : ℕ) (written : List ℕ) (after : Tables) → ReadInto o file before after → written ≡ headerAfter o header → r ≡ numberOr 0 o
+  opened : length header ≡ 6 → (o : Outcome) (r : ℕ) (written : List ℕ) (after : Tables)
+      → ReadInto o file before after
+      → written ≡ headerAfter o header
+      → r ≡ numberOr 0 o
       → FileReadInto file header before r written after
   opened l o r written after w e f =
       record {
@@ -35,17 +38,19 @@ module _ (file header : List ℕ) (before : Tables) where
 returns : tie.Need-returns
 returns c = shut _ _ _ (c .before .before .if1 .taken) _ _ (c .before .preview .ensures) (c .number-or .ensures)
 
+-- what was read, seen from where the header is put
+abbrev filled : tie.After-put-header-arg → tie.After-read
+filled c = c .before .before .before .before .before .before .before .before .before .before .before .before .before .before .before .before .before
+
 returns-2 : tie.Need-returns-2
 returns-2 c =
-    opened _ _ _
-    (c .before .before .before .before .before .before .before .before .before .before .before .before .before .before .before .before .before .before .before .before .before .before .before .before .before .before .before .before .before .before .if1 .left)
-    _ _ _ _
-    (c .before .before .before .before .before .before .before .before .before .before .before .before .before .before .before .before .before .before .before .before .before .read .ensures)
-    (c .before .before .before .put-header .ensures)
-    (c .number-or2 .ensures)
+    let put = c .before .before .before in
+    let read = filled (put .before) in
+    opened _ _ _ (read .before .before .before .before .before .before .before .before .before .if1 .left) _ _ _ _ (read .read .ensures)
+    (put .put-header .ensures) (c .number-or2 .ensures)
 
 put-header-requires : tie.Need-put-header-requires
-put-header-requires c κs = c .before .before .before .before .before .before .before .before .before .before .before .before .before .before .before .before .before .before .before .before .before .before .before .before .before .before .if1 .left
+put-header-requires c κs = filled c .before .before .before .before .before .before .before .before .before .if1 .left
 
 pub vartrymoy-read-spec : {M : Type 1} → statement M
 vartrymoy-read-spec =

@@ -38,7 +38,10 @@ put-written-requires : tie.Need-put-written-requires
 put-written-requires c κs = c .before .before .before .before .before .if1 .left
 
 returns-2 : tie.Need-returns-2
-returns-2 c = opened _ _ _ _ _ (c .before .before .before .before .before .before .before .before .before .if1 .left) _ _ _ _ (c .before .before .before .before .before .before .before .write .ensures) (c .before .before .before .put-written .ensures) (c .written-or2 .ensures)
+returns-2 c =
+    let put = c .before .before .before in
+    let wrote = put .before .before .before .before in
+    opened _ _ _ _ _ (wrote .before .before .if1 .left) _ _ _ _ (wrote .write .ensures) (put .put-written .ensures) (c .written-or2 .ensures)
 
 pub vartrymoy-write-spec : {M : Type 1} → statement M
 vartrymoy-write-spec =

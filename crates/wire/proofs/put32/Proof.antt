@@ -9,7 +9,10 @@ use Rattle.wire.proofs.put32.Tie as tie
 
 returns : tie.Need-returns
 returns c =
-    put-same (c .before .before .put-little32 .ensures) (ap (littleBytes 4) (c .before .before .before .swapped .ensures) ∙ turned-bytes (c .before .before .before .before .before .before .args .x) (search needs))
+    let stored = c .before .before in
+    let turned = stored .before in
+    put-same (stored .put-little32 .ensures)
+    (ap (littleBytes 4) (turned .swapped .ensures) ∙ turned-bytes (turned .before .before .before .args .x) (search needs))
 
 pub put32-spec : {M : Type 1} → statement M
 put32-spec = tie.close (tie.spec (λ c κs. search needs) (λ c κs. search needs) (λ c. search needs) returns)

@@ -12,7 +12,10 @@ put32-requires-2 : tie.Need-put32-requires-2
 put32-requires-2 c κs = let high = c .before .before .before .put32 .ensures in omega (arith, put-length high, put-ends 4 _ high)
 
 returns : tie.Need-returns
-returns c = put-same (put-then (c .before .before .before .before .before .before .put32 .ensures) (c .before .before .put322 .ensures)) (sym (eight (c .before .before .before .before .before .before .before .before .before .args .x)))
+returns c =
+    let low = c .before .before in
+    let high = low .before .before .before .before in
+    put-same (put-then (high .put32 .ensures) (low .put322 .ensures)) (sym (eight (high .before .before .before .args .x)))
 
 pub put64-spec : {M : Type 1} → statement M
 put64-spec =

@@ -21,7 +21,10 @@ put32-requires : tie.Need-put32-requires Inv-loop μ-loop
 put32-requires c κs = let w = c .before .before .before .loop .inv in omega (arith, put-length (w .put), w .place, c .before .before .loop-test .taken)
 
 loop-again : tie.Need-loop-again Inv-loop μ-loop
-loop-again c = spell-pass (c .before .before .before .before .before .before .loop .inv) (c .before .before .before .before .before .loop-test .taken) (c .before .before .put32 .ensures)
+loop-again c =
+    let put = c .before .before in
+    let test = put .before .before .before in
+    spell-pass (test .before .loop .inv) (test .loop-test .taken) (put .put32 .ensures)
 
 same-length : tie.Need-same-length Inv-loop μ-loop
 same-length c = put-length (c .before .loop .inv .put)

@@ -21,20 +21,29 @@ put8-requires c κs =
 
 put8-requires-2 : tie.Need-put8-requires-2
 put8-requires-2 c κs =
-    let p = c .before .before .before .before .before .before .before .before .put32 .ensures in
-    let q = c .before .before .before .before .put8 .ensures in
-    omega (arith, c .before .before .before .before .before .before .before .before .before .before .before .pre .room, header-bytes, put-length p, put-ends 4 _ p, put-length q, q .next)
+    let version = c .before .before .before .before in
+    let counted = version .before .before .before .before in
+    let p = counted .put32 .ensures in
+    let q = version .put8 .ensures in
+    omega (arith, counted .before .before .before .pre .room, header-bytes, put-length p, put-ends 4 _ p, put-length q, q .next)
 
 spell32-requires : tie.Need-spell32-requires
 spell32-requires c κs =
-    let p = c .before .before .before .before .before .before .before .before .before .before .before .before .before .put32 .ensures in
-    let q = c .before .before .before .before .before .before .before .before .before .put8 .ensures in
-    let r = c .before .before .before .before .put82 .ensures in
-    omega (arith, c .before .before .before .before .before .before .before .before .before .before .before .before .before .before .before .before .pre .room, header-bytes, put-length p, put-ends 4 _ p, put-length q, q .next, put-length r, r .next)
+    let kind = c .before .before .before .before in
+    let version = kind .before .before .before .before .before in
+    let counted = version .before .before .before .before in
+    let p = counted .put32 .ensures in
+    let q = version .put8 .ensures in
+    let r = kind .put82 .ensures in
+    omega (arith, counted .before .before .before .pre .room, header-bytes, put-length p, put-ends 4 _ p, put-length q, q .next, put-length r, r .next)
 
 returns : tie.Need-returns
 returns c =
-    head-put _ _ _ (c .before .before .before .before .before .before .before .before .before .before .before .before .before .before .before .before .before .before .before .pre) (c .before .before .before .before .before .before .before .before .before .before .before .before .before .before .before .before .put32 .ensures) (c .before .before .before .before .before .before .before .before .before .before .before .before .put8 .ensures) (c .before .before .before .before .before .before .before .put82 .ensures) (c .before .before .spell32 .ensures)
+    let kind = c .before .before .before .before .before .before .before in
+    let version = kind .before .before .before .before .before in
+    let counted = version .before .before .before .before in
+    head-put _ _ _ (counted .before .before .before .pre) (counted .put32 .ensures) (version .put8 .ensures) (kind .put82 .ensures)
+    (c .before .before .spell32 .ensures)
 
 pub head-spec : {M : Type 1} → statement M
 head-spec =

@@ -35,7 +35,8 @@ begun c = c .before .before .before .before .before .before .before .before .bef
 passed : (c : tie.Else1) → let s = begun c in T (accepts (asideOf (s .args .kind) (t s) (u s)))
 passed c =
     let s = begun c in
-    goes (c .before .accepts .ensures) (c .if1 .left) (c .before .before .refuse .ensures ∙ aside-is _ (t s) (u s) _ (c .before .before .before .choice-count .ensures))
+    let e = c .before .before .refuse .ensures ∙ aside-is _ (t s) (u s) _ (c .before .before .before .choice-count .ensures) in
+    goes (c .before .accepts .ensures) (c .if1 .left) e
 
 header-requires : tie.Need-header-requires
 header-requires c κs = countable _ (t (begun c)) (u (begun c)) (passed c)

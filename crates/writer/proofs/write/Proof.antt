@@ -24,7 +24,8 @@ returns c = left _ _ _ _ _ (c .before .before .preview .ensures) _ _ (c .enum-to
 abbrev begun : tie.After-known-told → tie.Start
 begun c = c .before .before .before .before .before .before .before .before .before .before .before .before .before
 
-told : (c : tie.After-known-told) → let s = begun c in writtenOf (s .args .kind) (t s) (u s) (length (s .args .buffer .now)) ≡ Length (c .before .written .given .0 .0)
+told : (c : tie.After-known-told) → let s = begun c in
+    writtenOf (s .args .kind) (t s) (u s) (length (s .args .buffer .now)) ≡ Length (c .before .written .given .0 .0)
 told c = sym (c .before .before .before .preview .ensures) ∙ c .before .written .given .1
 
 header-requires : tie.Need-header-requires
@@ -37,7 +38,9 @@ put-requires c κs =
     room _ (t s) (u s) (w .0) _ (c .before .header .ensures) _ _ (w .2) (omega (arith, w .1, w .2))
 
 returns-2 : tie.Need-returns-2
-returns-2 c = put-in _ _ _ _ _ (sym (told (c .before .before .before .before .before))) _ _ (c .before .before .before .before .header .ensures) (c .before .before .put .ensures)
+returns-2 c =
+    let headed = c .before .before .before .before in
+    put-in _ _ _ _ _ (sym (told (headed .before))) _ _ (headed .header .ensures) (c .before .before .put .ensures)
 
 pub write-spec : {M : Type 1} → statement M
 write-spec =

@@ -22,7 +22,8 @@ kind-asked c = c .is-kind .ensures ∙ ap (λ (h : Header). isKind (h .kind)) (c
 
 returns : tie.Need-returns
 returns c =
-    let e : lengthFieldRight (c .before .before .before .before .args .file .now) ≡ false = sym (c .before .before .length-field-right .ensures) ∙ not-true _ (c .before .if1 .taken) in
+    let file = c .before .before .before .before .args .file .now in
+    let e : lengthFieldRight file ≡ false = sym (c .before .before .length-field-right .ensures) ∙ not-true _ (c .before .if1 .taken) in
     rw (c .refused .ensures, judged, e)
 
 version-right-requires : tie.Need-version-right-requires
@@ -30,7 +31,8 @@ version-right-requires c κs = has-header _ (field-right c)
 
 returns-2 : tie.Need-returns-2
 returns-2 c =
-    let e : versionRight (c .before .before .before .before .before .before .args .file .now) ≡ false = sym (c .before .before .version-right .ensures) ∙ not-true _ (c .before .if2 .taken) in
+    let file = c .before .before .before .before .before .before .args .file .now in
+    let e : versionRight file ≡ false = sym (c .before .before .version-right .ensures) ∙ not-true _ (c .before .if2 .taken) in
     rw (c .refused2 .ensures, judged, field-right (c .before .before .before), e)
 
 header-of-requires : tie.Need-header-of-requires
@@ -38,17 +40,20 @@ header-of-requires c κs = has-header _ (field-right (c .before .before))
 
 returns-3 : tie.Need-returns-3
 returns-3 c =
-    let e : isKind (headerOf (c .before .before .before .before .before .before .before .before .before .args .file .now) .kind) ≡ false = sym (kind-asked (c .before .before)) ∙ not-true _ (c .before .if3 .taken) in
+    let file = c .before .before .before .before .before .before .before .before .before .args .file .now in
+    let e : isKind (headerOf file .kind) ≡ false = sym (kind-asked (c .before .before)) ∙ not-true _ (c .before .if3 .taken) in
     rw (c .refused3 .ensures, judged, field-right (c .before .before .before .before .before .before), version-is (c .before .before .before .before), e)
 
 returns-4 : tie.Need-returns-4
 unfolding lengthRight
 returns-4 c =
-    let e : isKind (headerOf (c .before .before .before .before .before .before .before .before .before .before .before .before .args .file .now) .kind) ≡ true = sym (kind-asked (c .before .before .before .before .before)) ∙ not-false _ (c .before .before .before .before .if3 .left) in
+    let asked = c .before .before .before .before .before in
+    let file = asked .before .before .before .before .before .before .before .args .file .now in
+    let e : isKind (headerOf file .kind) ≡ true = sym (kind-asked asked) ∙ not-false _ (c .before .before .before .before .if3 .left) in
     rw (
       judged,
-      field-right (c .before .before .before .before .before .before .before .before .before),
-      version-is (c .before .before .before .before .before .before .before),
+      field-right (asked .before .before .before .before),
+      version-is (asked .before .before),
       e,
       c .unless2 .ensures,
       c .before .unless .ensures,
@@ -61,4 +66,5 @@ pub judge-spec : {M : Type 1} → statement M
 judge-spec =
     tie.close
     (tie.spec (λ c κs. search needs) (λ c κs. search needs) returns version-right-requires (λ c κs. search needs) returns-2 header-of-requires
-    (λ c κs. search needs) (λ c κs. search needs) returns-3 (λ c κs. search needs) (λ c κs. search needs) (λ c κs. search needs) (λ c κs. search needs) returns-4)
+    (λ c κs. search needs) (λ c κs. search needs) returns-3 (λ c κs. search needs) (λ c κs. search needs) (λ c κs. search needs)
+    (λ c κs. search needs) returns-4)

@@ -20,8 +20,10 @@ returns : tie.Need-returns
 unfolding block announced
 returns c =
     let o = c .before .before .optional-of .ensures in
-    let n = c .before .before .before .before .before .before .args .h .n in (
-      lengths-are _ _ refl refl refl refl refl (c .before .entries-of .ensures ∙ ap (λ (b : Bool). entries b n) (o .0)) refl (c .entries-of2 .ensures ∙ ap (λ (b : Bool). entries b n) (o .1)),
+    let n = c .before .before .before .before .before .before .args .h .n in
+    let costs = c .before .entries-of .ensures ∙ ap (λ (b : Bool). entries b n) (o .0) in
+    let ranks = c .entries-of2 .ensures ∙ ap (λ (b : Bool). entries b n) (o .1) in (
+      lengths-are _ _ refl refl refl refl refl costs refl ranks refl,
       record {
         marks = omega arith;
         actionStarts = omega arith;

@@ -13,7 +13,8 @@ returns c =
 
 returns-2 : tie.Need-returns-2
 returns-2 c =
-    let n = neither (c .before .before .before .args .kind) (unnamed (c .before .before .before .args .kind) (sym (c .before .before .kind-of .ensures) ∙ c .enum-told .given .1)) in
+    let kind = c .before .before .before .args .kind in
+    let n = neither kind (unnamed kind (sym (c .before .before .kind-of .ensures) ∙ c .enum-told .given .1)) in
     (sym (n .0), sym (n .1))
 
 pub optional-of-spec : {M : Type 1} → statement M

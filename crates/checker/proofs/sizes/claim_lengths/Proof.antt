@@ -16,15 +16,15 @@ returns c =
     let l = b .args .l in
     four _ _ _ _ _
     (c .before .before .before .before .before .before .before .before .require .ensures
-    ∙ ap (λ (x : ℕ). then (b .args .v) (require (eqb (l .table6) x) 5 6))
+    ∙ ap (λ (x : ℕ). then (b .args .v) (require (eqb (l .costs) x) 5 6))
     (c .before .before .before .before .before .before .before .before .before .before .entries-of .ensures))
     (c .before .before .before .before .before .before .require2 .ensures)
     (c .before .before .before .require3 .ensures
-    ∙ ap (λ (x : ℕ). then (c .before .before .before .before .before .before .require2 .result) (require (eqb (l .table8) x) 5 8))
+    ∙ ap (λ (x : ℕ). then (c .before .before .before .before .before .before .require2 .result) (require (eqb (l .ranks) x) 5 8))
     (c .before .before .before .before .before .entries-of2 .ensures))
-    (c .require4 .ensures ∙ ap (λ (x : ℕ). then (c .before .before .before .require3 .result) (require (eqb (l .table9) x) 5 9))
+    (c .require4 .ensures ∙ ap (λ (x : ℕ). then (c .before .before .before .require3 .result) (require (eqb (l .choices) x) 5 9))
     (c .before .before .entries-of3 .ensures))
-    (require-word (eqb (l .table9) (entries (b .args .kind .choices) (l .table1))) 5 9)
+    (require-word (eqb (l .choices) (entries (b .args .kind .choices) (l .marks))) 5 9)
 
 pub claim-lengths-spec : {M : Type 1} → statement M
 claim-lengths-spec =

@@ -17,7 +17,7 @@ returns c =
     (c .before .before .before .before .require2 .ensures
     ∙ ap (λ (b : Bool). then (c .before .before .before .before .before .before .require .result) (require b 5 3))
     (c .before .before .before .before .before .in-between .ensures))
-    (c .before .before .require3 .ensures) (c .require4 .ensures) (require-word (eqb (o .args .l .table5) (o .args .l .table4)) 5 5)
+    (c .before .before .require3 .ensures) (c .require4 .ensures) (require-word (eqb (o .args .l .weights) (o .args .l .destinations)) 5 5)
 
 pub model-lengths-spec : {M : Type 1} → statement M
 model-lengths-spec =

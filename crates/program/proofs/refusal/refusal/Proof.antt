@@ -1,6 +1,7 @@
 -- `program::refusal::refusal` meets its contract: each table is cut as the header counts it. Assumes nothing.
 use Rattle.certfile.specs.Tables.{Tables, tables}
-use Rattle.program.proofs.Cut.{Cuts, cuts, refused-cut}
+use Rattle.certfile.proofs.Cut.{Cuts, cuts}
+use Rattle.program.proofs.Cut.{refused-cut}
 use borrow.Author.Needs.{needs}
 use Rattle.program.proofs.refusal.refusal.Statement.{statement}
 use Rattle.program.proofs.refusal.refusal.Tie as tie
@@ -11,43 +12,27 @@ lists c =
     tables (a .marks .now) (a .action-starts .now) (a .branch-starts .now) (a .destinations .now) (a .weights .now) (a .costs .now) (a .claims .now)
     (a .ranks .now)
 
-all : (c : tie.After-choice-count) → Cuts (c .before .counts-of .result)
-    (lists (c .before .before .before .before .before .before .before .before .before .before))
-all c = cuts _ _ _ (c .before .counts-of .ensures .0) (c .before .before .before .before .before .before .before .before .before .before .pre)
+abbrev start : tie.After-choice-count → tie.Start
+start c = c .before .before .before .before .before .before .before .before .before .before
 
-slice-aggregate-refuse : tie.Need-slice-aggregate-refuse
-slice-aggregate-refuse c = all (c .before) .marks
-
-slice-aggregate-refuse-2 : tie.Need-slice-aggregate-refuse-2
-slice-aggregate-refuse-2 c = all (c .before .before) .actionStarts
-
-slice-aggregate-refuse-3 : tie.Need-slice-aggregate-refuse-3
-slice-aggregate-refuse-3 c = all (c .before .before .before) .branchStarts
-
-slice-aggregate-refuse-4 : tie.Need-slice-aggregate-refuse-4
-slice-aggregate-refuse-4 c = all (c .before .before .before .before) .destinations
-
-slice-aggregate-refuse-5 : tie.Need-slice-aggregate-refuse-5
-slice-aggregate-refuse-5 c = all (c .before .before .before .before .before) .weights
-
-slice-aggregate-refuse-6 : tie.Need-slice-aggregate-refuse-6
-slice-aggregate-refuse-6 c = all (c .before .before .before .before .before .before) .costs
-
-slice-aggregate-refuse-7 : tie.Need-slice-aggregate-refuse-7
-slice-aggregate-refuse-7 c = all (c .before .before .before .before .before .before .before) .claims
-
-slice-aggregate-refuse-8 : tie.Need-slice-aggregate-refuse-8
-slice-aggregate-refuse-8 c = all (c .before .before .before .before .before .before .before .before) .ranks
+all : (c : tie.After-choice-count) → Cuts (c .before .counts-of .result) (lists (start c))
+all c = cuts _ _ _ (c .before .counts-of .ensures .0) (start c .pre)
 
 returns : tie.Need-returns
 returns c =
     let counted = c .before .before .before .before .before .before .before .before .before in
-    refused-cut _ _ (lists (counted .before .before .before .before .before .before .before .before .before .before)) _
-    (counted .before .counts-of .ensures .0) (counted .choice-count .ensures) _ (c .refuse .ensures)
+    refused-cut _ _ (lists (start counted)) _ (counted .before .counts-of .ensures .0) (counted .choice-count .ensures) _ (c .refuse .ensures)
 
 pub refusal-spec : {M : Type 1} → statement M
 refusal-spec =
     tie.close
-    (tie.spec (λ c κs. search needs) (λ c κs. search needs) slice-aggregate-refuse slice-aggregate-refuse-2 slice-aggregate-refuse-3
-    slice-aggregate-refuse-4 slice-aggregate-refuse-5 slice-aggregate-refuse-6 slice-aggregate-refuse-7 slice-aggregate-refuse-8
+    (tie.spec (λ c κs. search needs) (λ c κs. search needs)
+    (λ c. all (c .before) .marks)
+    (λ c. all (c .before .before) .actionStarts)
+    (λ c. all (c .before .before .before) .branchStarts)
+    (λ c. all (c .before .before .before .before) .destinations)
+    (λ c. all (c .before .before .before .before .before) .weights)
+    (λ c. all (c .before .before .before .before .before .before) .costs)
+    (λ c. all (c .before .before .before .before .before .before .before) .claims)
+    (λ c. all (c .before .before .before .before .before .before .before .before) .ranks)
     (λ c κs. search needs) returns)
