@@ -7,11 +7,12 @@ use native.Mathlib.Omega.{arith}
 use lib.ListN.{length, getD}
 use Rattle.walk.proofs.Loop.{Summing, sum-start, sum-pass, sum-within, sum-ends}
 use Rattle.model.specs.Limits.{mostWeightScale, mostCostClaim}
+use Rattle.model.specs.Tables.{destinationAt, weightAt}
 use Rattle.model.specs.Conditions.{weightedOver}
 use Rattle.actions.specs.Ready.{Weighable}
 
 abbrev pub term : List ℕ → List ℕ → List ℕ → ℕ → ℕ
-term destinations weights claims j = getD weights j 0 * getD claims (getD destinations j 0) 0
+term destinations weights claims j = weightAt weights j * getD claims (destinationAt destinations j) 0
 
 pub record Weighing (destinations weights claims : List ℕ) (lo hi total j : ℕ) : Type 0 where
   pub able : Weighable destinations weights claims lo hi
@@ -23,7 +24,7 @@ module _ {destinations weights claims : List ℕ} {lo hi : ℕ} where
   weigh-start w = record { able = w; low = le-refl lo; summing = sum-start (term destinations weights claims) lo hi (w .low) }
 
   module _ {total j : ℕ} (w : Weighing destinations weights claims lo hi total j) where
-    pub place-within : j < hi → getD destinations j 0 < length claims
+    pub place-within : j < hi → destinationAt destinations j < length claims
     place-within h = w .able .inside j (w .low) h
 
     pub sum-fits : j < hi → total + term destinations weights claims j ≤ mostWeightScale * mostCostClaim

@@ -6,7 +6,7 @@ use lib.ListN.{getD}
 use Rattle.walk.specs.Fold.{first, least, sum, any}
 use Rattle.model.specs.declared.kinds.Kind.{Kind}
 use Rattle.model.specs.Limits.{none}
-use Rattle.model.specs.Tables.{Model, Claim, firstAction, cost, claim, rank}
+use Rattle.model.specs.Tables.{Model, Claim, firstAction, destinationAt, cost, claim, rank}
 use Rattle.model.specs.Conditions.{weightedOver, expectedOf, suitsBy, fallsOver}
 use Rattle.actions.specs.declared.State.{State}
 
@@ -41,7 +41,7 @@ stateOf t u s =
 -- the least rank of the destinations of a stretch of branches, or none
 unfoldable pub leastOf : List ℕ → List ℕ → ℕ → ℕ → ℕ
 unfolding least
-leastOf destinations ranks lo hi = least (λ j. getD ranks (getD destinations j 0) 0) none lo hi
+leastOf destinations ranks lo hi = least (λ j. getD ranks (destinationAt destinations j) 0) none lo hi
 
 -- an action suits and, where 24 is asked, falls
 abbrev pub kept : (asked suits falls : Bool) → Bool

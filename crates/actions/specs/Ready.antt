@@ -7,6 +7,7 @@ use lib.ListN.{length, getD}
 use Rattle.model.specs.declared.kinds.Kind.{Kind}
 use Rattle.model.specs.Limits.{mostWeightScale, mostCost, mostCostClaim, none}
 use Rattle.model.specs.Kinds.{isCost, isAtLeast}
+use Rattle.model.specs.Tables.{destinationAt}
 use Rattle.model.specs.Conditions.{weightedOver}
 use Rattle.actions.specs.declared.State.{State}
 use Rattle.actions.specs.Judging.{Rows}
@@ -16,7 +17,7 @@ pub record Weighable (destinations weights claims : List ℕ) (lo hi : ℕ) : Ty
   pub low : lo ≤ hi
   pub in-destinations : hi ≤ length destinations
   pub in-weights : hi ≤ length weights
-  pub inside : (j : ℕ) → lo ≤ j → j < hi → getD destinations j 0 < length claims
+  pub inside : (j : ℕ) → lo ≤ j → j < hi → destinationAt destinations j < length claims
   pub light : weightedOver destinations weights claims lo hi ≤ mostWeightScale * mostCostClaim
 
 -- numbers of a state in their ranges; a claim that is not about cost has none

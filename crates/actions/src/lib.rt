@@ -124,6 +124,7 @@ fn judge_action(
     )
 }
 
+// Two tests say the same.
 pub fn agree(a: bool, b: bool) -> bool
     ensures { λ r. ⌜ r ≡ Bool·beq a b ⌝ }
 {

@@ -1,7 +1,7 @@
 -- Model A as a kind 1 file takes 137 bytes, and its length field is 133; a buffer one byte shorter is refused, but only where 1 to 14
 -- do not refuse. Assumes nothing.
 use mathlib.Core.Path.{_≡_, refl}
-use mathlib.Core.List.{List, [], _∷_}
+use mathlib.Core.List.{[], _∷_}
 use lib.ListN.{length, take}
 use Rattle.walk.specs.Fold.{any}
 use Rattle.model.specs.Limits.{none}

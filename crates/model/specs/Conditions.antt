@@ -11,12 +11,13 @@ use Rattle.model.specs.declared.answers.Verdict.the-variants.{Violated}
 use Rattle.model.specs.declared.kinds.Kind.{Kind}
 use Rattle.model.specs.Limits.{none}
 use Rattle.model.specs.Kinds.{isCost, isAtLeast, isSome}
-use Rattle.model.specs.Tables.{Model, Claim, target, firstAction, firstBranch, scale, cost, claim, rank, isRank}
+use Rattle.model.specs.Tables.{Model, Claim, target, firstAction, firstBranch, destinationAt, weightAt, scale, cost, claim}
+use Rattle.model.specs.Tables.{rank, isRank}
 use Rattle.model.specs.Answers.{pass, tried}
 
 -- the sum over the branches from lo up to, not with, hi of weight times the destination's claim
 abbrev pub weightedOver : (destinations weights claims : List ℕ) → (lo hi : ℕ) → ℕ
-weightedOver destinations weights claims lo hi = sum (λ j. getD weights j 0 * getD claims (getD destinations j 0) 0) lo hi
+weightedOver destinations weights claims lo hi = sum (λ j. weightAt weights j * getD claims (destinationAt destinations j) 0) lo hi
 
 unfoldable pub weighted : Model → Claim → ℕ → ℕ
 unfolding sum
@@ -41,7 +42,7 @@ suits k t u s a = suitsBy k (scale t a * claim u s) (expected k t u s a)
 -- the action falls: some branch has a destination with a rank that is not none and is below the rank of s
 abbrev pub fallsOver : (destinations ranks : List ℕ) → (r lo hi : ℕ) → Bool
 fallsOver destinations ranks r lo hi =
-    any (λ j. isRank (getD ranks (getD destinations j 0) 0) && ltb (getD ranks (getD destinations j 0) 0) r) lo hi
+    any (λ j. isRank (getD ranks (destinationAt destinations j) 0) && ltb (getD ranks (destinationAt destinations j) 0) r) lo hi
 
 unfoldable pub falls : Model → Claim → ℕ → ℕ → Bool
 unfolding any

@@ -10,7 +10,7 @@ use Rattle.model.specs.declared.kinds.Kind.{Kind}
 use Rattle.model.specs.declared.limits.Lengths.{Lengths}
 use Rattle.model.specs.Limits.{mostStates, mostActions, mostBranches, mostWeightScale, mostClaimScale, mostCost, mostCostClaim, none}
 use Rattle.model.specs.Kinds.{isCost, isKind, kindOf}
-use Rattle.model.specs.Tables.{Model, Claim, states, actions, branches, firstBranch, scale}
+use Rattle.model.specs.Tables.{Model, Claim, states, actions, branches, firstBranch, destinationAt, weightAt, scale}
 use Rattle.model.specs.Answers.{pass, tried, each, require, throughout}
 
 abbrev pub between : ℕ → ℕ → ℕ → Bool
@@ -109,7 +109,7 @@ marksTest marks = throughout (λ s. leb (getD marks s 0) 1) (length marks) 8
 -- 9: a destination is a state; 10: a weight is 1 to D
 abbrev pub branchOver : (scale n : ℕ) → (destinations weights : List ℕ) → ℕ → Verdict
 branchOver scale n destinations weights j =
-    tried (require (ltb (getD destinations j 0) n) 9 j ∷ require (between 1 scale (getD weights j 0)) 10 j ∷ []) pass
+    tried (require (ltb (destinationAt destinations j) n) 9 j ∷ require (between 1 scale (weightAt weights j)) 10 j ∷ []) pass
 
 unfoldable pub branchTest : Model → ℕ → ℕ → Verdict
 unfolding tried require
@@ -117,7 +117,7 @@ branchTest t a j = branchOver (scale t a) (states t) (t .destinations) (t .weigh
 
 -- 11: the weights of action a, its branches from lo up to, not with, hi, add up to D
 abbrev pub totalOver : (scale : ℕ) → (weights : List ℕ) → (a lo hi : ℕ) → Verdict
-totalOver scale weights a lo hi = require (eqb (sum (λ j. getD weights j 0) lo hi) scale) 11 a
+totalOver scale weights a lo hi = require (eqb (sum (weightAt weights) lo hi) scale) 11 a
 
 unfoldable pub totalTest : Model → ℕ → Verdict
 unfolding require sum

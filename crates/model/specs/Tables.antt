@@ -59,11 +59,18 @@ firstAction t s = getD (t .actionStarts) s 0
 abbrev pub firstBranch : Model → ℕ → ℕ
 firstBranch t a = getD (t .branchStarts) a 0
 
+-- where branch j leads, and its weight
+abbrev pub destinationAt : List ℕ → ℕ → ℕ
+destinationAt destinations j = getD destinations j 0
+
+abbrev pub weightAt : List ℕ → ℕ → ℕ
+weightAt weights j = getD weights j 0
+
 abbrev pub destination : Model → ℕ → ℕ
-destination t j = getD (t .destinations) j 0
+destination t j = destinationAt (t .destinations) j
 
 abbrev pub weight : Model → ℕ → ℕ
-weight t j = getD (t .weights) j 0
+weight t j = weightAt (t .weights) j
 
 -- what the weights of action a add up to, and its conditions are taken over
 abbrev pub scale : Model → ℕ → ℕ

@@ -5,7 +5,6 @@ use mathlib.Core.List.{[], _∷_}
 use Prim.Native.Nat.{ℕ, zero, suc, _+_, _*_, _^_, _≤_}
 use native.Mathlib.Nat.{mul-le-mul-left, pow-suc}
 use native.Mathlib.Omega.{arith}
-use Rattle.walk.specs.Fold.{sum}
 use Rattle.walk.proofs.Fold.{sum-le, sum-times}
 use Rattle.soundness.specs.Process.{Process, Strategy, stepped}
 use Rattle.soundness.proofs.Conditions.{Obeys, AtMost}
