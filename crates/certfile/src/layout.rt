@@ -1,7 +1,6 @@
 // What a header announces: the entries of each table, and the place of its first.
 ghost use mathlib.Core.Path.{_≡_};
 ghost use Rattle.model.specs.Kinds.{kindOf};
-ghost use Rattle.model.specs.Refusals.{entries};
 ghost use Prim.Native.Nat.{_≤_};
 ghost use lib.ListN.{length};
 ghost use Rattle.wire.specs.Blocks.{size};
@@ -34,13 +33,6 @@ fn optional_of(kind: u32) -> Optional
     }
 }
 
-// The entries of a table that is there, or is not.
-fn entries_of(has: bool, n: usize) -> usize
-    ensures { λ r. ⌜ r ≡ entries has n ⌝ }
-{
-    if has { n } else { 0 }
-}
-
 // The entries of each table: a file holds no choice list.
 pub fn counts_of(h: Header) -> Lengths
     ensures counts { λ r. ⌜ r ≡ countsOf h ⌝ }
@@ -56,9 +48,9 @@ pub fn counts_of(h: Header) -> Lengths
         branch_starts: m + 1,
         destinations: b,
         weights: b,
-        costs: entries_of(has.costs, n),
+        costs: model::entries_of(has.costs, n),
         claims: n,
-        ranks: entries_of(has.ranks, n),
+        ranks: model::entries_of(has.ranks, n),
         choices: 0,
     }
 }

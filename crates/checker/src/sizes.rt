@@ -2,7 +2,7 @@
 ghost use mathlib.Core.Path.{_≡_};
 ghost use Prim.Native.Nat.{_<_, _^_};
 ghost use Rattle.model.specs.Answers.{pass, then, tried};
-ghost use Rattle.model.specs.Refusals.{between, claimScaleRight, entries, modelLengths, claimLengths, sizesOf};
+ghost use Rattle.model.specs.Refusals.{between, claimScaleRight, modelLengths, claimLengths, sizesOf};
 use model::Claim;
 use model::Kind;
 use model::Lengths;
@@ -31,16 +31,6 @@ fn claim_scale_right(kind: Kind, c: u32) -> bool
     in_between(1, Claim::MOST_SCALE as usize, c as usize)
 }
 
-// The entries of a table that the claim has, or has not.
-fn entries_of(has: bool, n: usize) -> usize
-    ensures { λ r. ⌜ r ≡ entries has n ⌝ }
-{
-    if has {
-        return n;
-    }
-    0
-}
-
 // What this says, unless it accepts: then refused 5 at the first of tables 2 to 5 whose length is wrong.
 fn model_lengths(v: Verdict, l: Lengths) -> Verdict
     requires { ⌜ l .marks < 2 ^ 63 ⌝ }
@@ -66,10 +56,22 @@ fn claim_lengths(v: Verdict, kind: Kind, l: Lengths) -> Verdict
     ensures { λ r. ⌜ r ≡ then v (tried (claimLengths kind l) pass) ⌝ }
 {
     let n = l.marks;
-    let v = v.require(l.costs == entries_of(kind.costs, n), Refusal::LENGTH, 6);
+    let v = v.require(
+        l.costs == model::entries_of(kind.costs, n),
+        Refusal::LENGTH,
+        6,
+    );
     let v = v.require(l.claims == n, Refusal::LENGTH, 7);
-    let v = v.require(l.ranks == entries_of(kind.ranks, n), Refusal::LENGTH, 8);
-    v.require(l.choices == entries_of(kind.choices, n), Refusal::LENGTH, 9)
+    let v = v.require(
+        l.ranks == model::entries_of(kind.ranks, n),
+        Refusal::LENGTH,
+        8,
+    );
+    v.require(
+        l.choices == model::entries_of(kind.choices, n),
+        Refusal::LENGTH,
+        9,
+    )
 }
 
 // Refusals 2 to 5, in number order; accepted where none stands.

@@ -37,7 +37,7 @@ fn target_claim(kind: Kind, c: u32, claim: u64) -> bool
 }
 
 // What 23 asks, "at least" only: a claim above 0 has a rank that is not none.
-fn rank_right(kind: Kind, claim: u64, rank: u32) -> bool
+fn claim_ranked(kind: Kind, claim: u64, rank: u32) -> bool
     ensures { λ r. ⌜ r ≡ rankAsks kind claim rank ⌝ }
 {
     let bound = kind.bound;
@@ -80,7 +80,7 @@ fn ranked(kind: Kind, state: State) -> Verdict
     ensures { λ r. ⌜ r ≡ verdict23 kind state ⌝ }
 {
     ask(
-        rank_right(kind, state.claim, state.rank),
+        claim_ranked(kind, state.claim, state.rank),
         Condition::RANKED,
         state.place,
         Rank::NONE,

@@ -1,7 +1,7 @@
 // The eight kinds of claim, and what each needs, in one fixed table.
 ghost use mathlib.Core.Path.{_≡_};
 ghost use Rattle.model.specs.Kinds.{isCost, isAtLeast, isSome, knownAs};
-ghost use Rattle.model.specs.Refusals.{choiceCount};
+ghost use Rattle.model.specs.Refusals.{choiceCount, entries};
 
 pub enum Measure {
     Arrival,
@@ -152,12 +152,19 @@ pub fn kind_of(number: u32) -> Known
     Known::As(Kind::TABLE[row])
 }
 
+// The entries of a table that a claim has, or has not.
+pub fn entries_of(has: bool, n: usize) -> usize
+    ensures { λ r. ⌜ r ≡ entries has n ⌝ }
+{
+    if has { n } else { 0 }
+}
+
 // The entries of the choice list: one for each state, where the kind writes choices.
 pub fn choice_count(kind: u32, n: usize) -> usize
     ensures { λ r. ⌜ r ≡ choiceCount kind n ⌝ }
 {
     match kind_of(kind) {
-        Known::As(k) => { if k.choices { n } else { 0 } }
+        Known::As(k) => entries_of(k.choices, n),
         Known::Nothing => 0,
     }
 }

@@ -14,6 +14,7 @@ pub use kinds::Known;
 pub use kinds::Measure;
 pub use kinds::Who;
 pub use kinds::choice_count;
+pub use kinds::entries_of;
 pub use kinds::kind_of;
 pub use limits::Claim;
 pub use limits::Cost;

@@ -43,7 +43,7 @@ impl Rank {
     pub const NONE: u32 = 4_294_967_295;
 }
 
-// The lengths of tables 1 to 9.
+// A number for each of the tables 1 to 9: its entries, or the place of its first.
 pub struct Lengths {
     pub marks: usize,
     pub action_starts: usize,

@@ -8,7 +8,7 @@ use Rattle.conditions.proofs.ranked.Tie as tie
 
 returns : tie.Need-returns
 unfolding verdict23
-returns c = c .ask .ensures ∙ rw (c .before .rank-right .ensures)
+returns c = c .ask .ensures ∙ rw (c .before .claim-ranked .ensures)
 
 pub ranked-spec : {M : Type 1} → statement M
 ranked-spec = tie.close (tie.spec (λ c κs. search needs) (λ c κs. search needs) returns)

@@ -76,6 +76,7 @@ reached-7 : (c : tie.After-spell32-arg6) → let s = begun-7 c in let p = c .bef
     Reached (s .args .file .now) (p .last .0) (p .result) (end7 (t s) (u s))
 reached-7 c = spell-on (reached-6 (c .before .before .before .before)) 8 _ (c .before .before .before .spell64 .ensures)
 
+-- and there is room for all of it
 whole : (s : tie.Start) → end8 (t s) (u s) ≤ length (s .args .file .now)
 whole s = omega (arith, s .pre .room, whole-length (s .args .h) (t s) (u s) (s .pre .head .kind))
 

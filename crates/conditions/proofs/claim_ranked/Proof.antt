@@ -1,12 +1,12 @@
--- `conditions::rank_right` meets its contract. Assumes nothing.
+-- `conditions::claim_ranked` meets its contract. Assumes nothing.
 use mathlib.Core.Path.{_≡_, sym, _∙_}
 use mathlib.Core.Bool.{true}
 use borrow.Author.Needs.{needs}
 use borrow.Author.Tests.{not-true, not-false, ne-eqb}
 use Rattle.model.specs.Kinds.{isAtLeast}
 use Rattle.model.specs.Conditions.{rankAsks}
-use Rattle.conditions.proofs.rank_right.Statement.{statement}
-use Rattle.conditions.proofs.rank_right.Tie as tie
+use Rattle.conditions.proofs.claim_ranked.Statement.{statement}
+use Rattle.conditions.proofs.claim_ranked.Tie as tie
 
 returns : tie.Need-returns
 unfolding rankAsks
@@ -23,5 +23,5 @@ returns-3 : tie.Need-returns-3
 unfolding rankAsks
 returns-3 c = rw (least (c .before), ne-eqb (c .before .before .before .args .claim) 0 (c .if2 .left))
 
-pub rank-right-spec : {M : Type 1} → statement M
-rank-right-spec = tie.close (tie.spec (λ c κs. search needs) returns returns-2 returns-3)
+pub claim-ranked-spec : {M : Type 1} → statement M
+claim-ranked-spec = tie.close (tie.spec (λ c κs. search needs) returns returns-2 returns-3)
