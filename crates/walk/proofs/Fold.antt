@@ -160,15 +160,6 @@ sum-le f g hi = down
     let b : sum f (i + 1) hi ≤ sum g (i + 1) hi = ih (λ j u v. k j (omega arith) v) in
     rw (sum-step f i hi h, sum-step g i hi h) (omega arith))
 
-pub sum-same : (f g : ℕ → ℕ) (hi : ℕ) (lo : ℕ) → ((i : ℕ) → lo ≤ i → i < hi → f i ≡ g i) → sum f lo hi ≡ sum g lo hi
-sum-same f g hi = down
-    (λ lo. ((i : ℕ) → lo ≤ i → i < hi → f i ≡ g i) → sum f lo hi ≡ sum g lo hi) hi
-    (λ i h k. rw (sum-end f i hi h, sum-end g i hi h))
-    (λ i h ih k.
-    let a : f i ≡ g i = k i (le-refl i) h in
-    let b : sum f (i + 1) hi ≡ sum g (i + 1) hi = ih (λ j u v. k j (omega arith) v) in
-    rw (sum-step f i hi h, sum-step g i hi h) (omega arith))
-
 pub sum-times : (f : ℕ → ℕ) (c hi lo : ℕ) → sum (λ i. f i * c) lo hi ≡ sum f lo hi * c
 sum-times f c hi = down
     (λ lo. sum (λ i. f i * c) lo hi ≡ sum f lo hi * c) hi
@@ -180,18 +171,6 @@ sum-plus f g hi = down
     (λ lo. sum (λ i. f i + g i) lo hi ≡ sum f lo hi + sum g lo hi) hi
     (λ i h. rw (sum-end (λ j. f j + g j) i hi h, sum-end f i hi h, sum-end g i hi h) (omega arith))
     (λ i h ih. rw (sum-step (λ j. f j + g j) i hi h, sum-step f i hi h, sum-step g i hi h) (omega arith))
-
--- one term of a sum is no more than the sum
-pub term-le : (f : ℕ → ℕ) (hi k lo : ℕ) → lo ≤ k → k < hi → f k ≤ sum f lo hi
-term-le f hi k = down
-    (λ lo. lo ≤ k → k < hi → f k ≤ sum f lo hi) hi
-    (λ i h l u. absurd (omega arith))
-    (λ i h ih l u.
-    rw (sum-step f i hi h)
-    (⊎-elim
-    (λ (w : k ≤ i). let q : k ≡ i = omega arith in rw q (omega arith))
-    (λ (w : i < k). let b = ih (omega arith) u in omega arith)
-    (at-end i k)))
 
 -- what is listed has as many entries as the range, and f of the index at each
 pub listed-length : (f : ℕ → ℕ) (hi lo : ℕ) → length (listed f lo hi) ≡ hi - lo
@@ -219,16 +198,7 @@ listed-at f d hi = down
     by i ih zero u = ap f (omega arith)
     by i ih (suc k) u = ih k (omega arith) ∙ ap f (omega arith)
 
--- the greatest is no less than each, and no more than what none exceeds
-pub greatest-le : (f : ℕ → ℕ) (c hi lo : ℕ) → ((i : ℕ) → lo ≤ i → i < hi → f i ≤ c) → greatest f lo hi ≤ c
-greatest-le f c hi = down
-    (λ lo. ((i : ℕ) → lo ≤ i → i < hi → f i ≤ c) → greatest f lo hi ≤ c) hi
-    (λ i h k. rw (greatest-end f i hi h) (omega arith))
-    (λ i h ih k.
-    let a : f i ≤ c = k i (le-refl i) h in
-    let b : greatest f (i + 1) hi ≤ c = ih (λ j u v. k j (omega arith) v) in
-    rw (greatest-step f i hi h) (omega arith))
-
+-- the greatest is no less than each
 pub le-greatest : (f : ℕ → ℕ) (hi k lo : ℕ) → lo ≤ k → k < hi → f k ≤ greatest f lo hi
 le-greatest f hi k = down
     (λ lo. lo ≤ k → k < hi → f k ≤ greatest f lo hi) hi

@@ -9,28 +9,8 @@ use native.Mathlib.Numerals.{add-one}
 use native.Mathlib.Omega.{arith}
 use lib.ListN.{length, getD, take, drop, set, length-append, length-drop}
 use lib.Seq.{drop-cons, set-at, ext-getD, getD-take, length-take-le}
-use Rattle.walk.specs.Fold.{from, first, sum, greatest, least, listed}
+use Rattle.walk.specs.Fold.{first, sum, greatest, least, listed}
 use Rattle.walk.proofs.Fold
-
--- A walk: what is left from i on comes to the whole.
-module _ {A : Type 0} where
-  pub record Walking (step : ℕ → A → A) (z : A) (hi : ℕ) (whole : A) (i : ℕ) : Type 0 where
-    pub high : i ≤ hi
-    pub rest : from step z i hi ≡ whole
-
-  module _ (step : ℕ → A → A) (z : A) where
-    pub walk-start : (lo hi : ℕ) → lo ≤ hi → Walking step z hi (from step z lo hi) lo
-    walk-start lo hi h = record { high = h; rest = refl }
-
-  module _ {step : ℕ → A → A} {z : A} {hi : ℕ} {whole : A} {i : ℕ} (w : Walking step z hi whole i) where
-    pub walk-pass : i < hi → step i (from step z (i + 1) hi) ≡ from step z (i + 1) hi → Walking step z hi whole (i + 1)
-    walk-pass h e = record { high = omega arith; rest = sym e ∙ sym (Fold.from-step step z i hi h) ∙ w .rest }
-
-    pub walk-hit : (v : A) → i < hi → step i (from step z (i + 1) hi) ≡ v → v ≡ whole
-    walk-hit v h e = sym e ∙ sym (Fold.from-step step z i hi h) ∙ w .rest
-
-    pub walk-end : hi ≤ i → z ≡ whole
-    walk-end h = sym (Fold.from-end step z i hi h) ∙ w .rest
 
 -- A search: the lowest index from i on is the lowest of all.
 pub record Seeking (p : ℕ → Bool) (hi whole i : ℕ) : Type 0 where
