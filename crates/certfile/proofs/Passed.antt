@@ -138,7 +138,7 @@ module _ (h : Header) (place count : Lengths) (file : List ℕ) (t : Tables) (p 
         ranks = e8 ∙ rw (p, q);
       }
 
--- tables that a file was read into have room for its blocks
+-- tables that keep their lengths lend the same
 pub lengths-kept : (t u : Tables)
     → length (u .marks) ≡ length (t .marks)
     → length (u .actionStarts) ≡ length (t .actionStarts)
@@ -151,6 +151,7 @@ pub lengths-kept : (t u : Tables)
     → lent u ≡ lent t
 lengths-kept t u a b c d e f g h = rw (a, b, c, d, e, f, g, h)
 
+-- tables that a file was read into have room for its blocks
 pub read-roomy : (o : Outcome) (file : List ℕ) (t u : Tables) → ReadInto o file t u → (h : Header) → o ≡ Read h → lent u ≡ lent t → Roomy h (lent u)
 read-roomy o file t u w h e kept = subst (λ (l : List ℕ). Roomy h l) (sym kept) (has-room (lent t) file h (sym (w .answer) ∙ e))
 
