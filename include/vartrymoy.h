@@ -38,6 +38,10 @@ extern "C" {
 /* Judges the claim that the tables make. Returns 0 for accepted, 21 to 24 for
  * a violated condition, 1 to 14 for tables that are refused.
  *
+ * A claim of kinds 1 to 4 bounds the part of a cohort that has reached a
+ * target. A claim of kinds 5 to 8 bounds the cost of each stay up to and
+ * including the admission at the target, whose own cost counts once.
+ *
  * Written:
  * answer   the number returned; then R (0), the state (21 to 24) or the place
  *          (1 to 14); then the action or none; then `kind` as given. With a

@@ -8,7 +8,6 @@ pub(crate) struct Conditions<'a> {
     kind: Kind,
     rows: &'a Rows<'a>,
     claim: &'a Claim<'a>,
-    asked_of_target: Option<u64>,
 }
 
 /// The branches of one action.
@@ -20,12 +19,7 @@ struct Branches<'a> {
 
 impl<'a> Conditions<'a> {
     pub fn new(kind: Kind, rows: &'a Rows<'a>, claim: &'a Claim<'a>) -> Self {
-        Conditions {
-            kind,
-            rows,
-            claim,
-            asked_of_target: kind.asked_of_target(claim.c),
-        }
+        Conditions { kind, rows, claim }
     }
 
     /// Names the first violation, or writes the choices of a "some" claim.
@@ -173,10 +167,12 @@ impl<'a> Conditions<'a> {
 
     /// Conditions 21 and 23 at a target.
     fn target(&self, state: usize) -> Result<(), Verdict> {
-        match self.asked_of_target {
-            Some(asked) if self.claim.claims[state] != asked => Err(violated(21, state, None)),
-            _ => self.rank_where_claimed(state),
+        let cost = self.cost(state);
+        let allowed = self.kind.allowed_at_target(self.claim.c, cost);
+        if !allowed.contains(&self.claim.claims[state]) {
+            return Err(violated(21, state, None));
         }
+        self.rank_where_claimed(state)
     }
 
     /// Condition 23; without ranks it asks nothing.
@@ -191,8 +187,13 @@ impl<'a> Conditions<'a> {
     /// D times the state's cost, and D times its claim.
     fn own_and_bound(&self, state: usize) -> (u64, u64) {
         let d = u64::from(self.rows.d);
-        let cost = self.claim.costs.get(state).copied().unwrap_or(0);
-        (d * u64::from(cost), d * self.claim.claims[state])
+        let cost = u64::from(self.cost(state));
+        (d * cost, d * self.claim.claims[state])
+    }
+
+    /// The state's cost, 0 for arrival kinds.
+    fn cost(&self, state: usize) -> u32 {
+        self.claim.costs.get(state).copied().unwrap_or(0)
     }
 
     /// The actions of a state with their numbers in the whole model.

@@ -1,5 +1,7 @@
 //! The eight kinds of claim.
 
+use std::ops::RangeInclusive;
+
 /// What a kind of claim is about.
 #[derive(Clone, Copy, Debug, PartialEq, Eq)]
 pub struct Kind {
@@ -37,19 +39,22 @@ impl Kind {
         KINDS.get(index).copied()
     }
 
-    /// The claim that condition 21 asks of a target, if it asks any.
-    pub fn asked_of_target(self, claim_scale: u32) -> Option<u64> {
+    /// The claims that condition 21 allows at a target with this cost, of those
+    /// that are in range.
+    pub fn allowed_at_target(self, claim_scale: u32, cost: u32) -> RangeInclusive<u64> {
+        let (whole, cost) = (u64::from(claim_scale), u64::from(cost));
         match (self.cost, self.at_least) {
-            (false, false) => Some(u64::from(claim_scale)),
-            (true, true) => Some(0),
-            _ => None,
+            (false, false) => whole..=whole,
+            (false, true) => 0..=whole,
+            (true, false) => cost..=u64::MAX,
+            (true, true) => 0..=cost,
         }
     }
 
     /// Whether the condition with this number (21 to 24) says anything.
     pub fn has_condition(self, number: u32) -> bool {
         match number {
-            21 => self.cost == self.at_least,
+            21 => self.cost || !self.at_least,
             22 => true,
             23 | 24 => self.at_least,
             _ => false,

@@ -1,7 +1,8 @@
--- Document 01's stepped figures of model A, and what demand 3 says of three of the accepted cases. Assumes nothing.
+-- Document 01's stepped figures of model A, as W-202 changed those of cost, and what demand 3 says of four of the accepted cases.
+-- Assumes nothing.
 use mathlib.Core.Path.{_≡_, refl, ap, subst}
 use mathlib.Core.List.{List, [], _∷_, map}
-use Prim.Native.Nat.{ℕ, zero, suc, _-_, _*_, _^_, _≤_}
+use Prim.Native.Nat.{ℕ, zero, suc, _-_, _*_, _^_, _≤_, _<_}
 use native.Mathlib.Nat.{mul-one, one-mul}
 use native.Mathlib.Omega.{arith}
 use lib.Dec.{T}
@@ -19,7 +20,7 @@ use Rattle.soundness.proofs.Demand3.{demand3}
 use Rattle.cases.specs.Worked.{Case, modelA, arrival, costly, unlent, lent, proved}
 use Rattle.cases.proofs.Right.{right}
 
--- the claims of the cases A 1, A 4 and A 6 that are accepted
+-- the claims of the cases A 1, A 4, A 6 and A 8 that are accepted, of A 8 the one that broke 21 before W-202
 abbrev A1 : Claim
 A1 = arrival 8 (4 ∷ 0 ∷ 8 ∷ []) []
 
@@ -27,7 +28,10 @@ abbrev A4 : Claim
 A4 = arrival 8 (4 ∷ 0 ∷ 8 ∷ []) (1 ∷ none ∷ 0 ∷ [])
 
 abbrev A6 : Claim
-A6 = costly (3 ∷ 0 ∷ 0 ∷ []) []
+A6 = costly (3 ∷ 0 ∷ 5 ∷ []) []
+
+abbrev A8 : Claim
+A8 = costly (8 ∷ 0 ∷ 5 ∷ []) (1 ∷ none ∷ 0 ∷ [])
 
 -- choice 0 at state 0, whatever the history; and choice 0 at the first step, then choice 1
 abbrev choice0 : Strategy
@@ -51,10 +55,25 @@ pub remembers : (after-steps (kindOf 1) modelA A1 changing 1 0 ≡ 1)
 unfolding after-steps sum
 remembers = (refl, refl, refl)
 
--- cost collected from state 0 under choice 0 is 12/4, 72/16 after 1, 2 steps
-pub collects : (after-steps (kindOf 6) modelA A6 choice0 1 0 ≡ 12) × (after-steps (kindOf 6) modelA A6 choice0 2 0 ≡ 72)
+-- cost collected from state 0 under choice 0 is 17/4, 102/16, 476/64 after 1, 2, 3 steps; none before the first
+pub collects : (after-steps (kindOf 6) modelA A6 choice0 0 0 ≡ 0)
+    × (after-steps (kindOf 6) modelA A6 choice0 1 0 ≡ 17)
+    × (after-steps (kindOf 6) modelA A6 choice0 2 0 ≡ 102)
+    × (after-steps (kindOf 6) modelA A6 choice0 3 0 ≡ 476)
 unfolding after-steps sum
-collects = (refl, refl)
+collects = (refl, refl, refl, refl)
+
+-- the target has its cost of 5 from the start, and does not pay it again: 5, 20/4, 80/16 after 0, 1, 2 steps
+pub pays-once : (after-steps (kindOf 6) modelA A6 choice0 0 2 ≡ 5)
+    × (after-steps (kindOf 6) modelA A6 choice0 1 2 ≡ 20)
+    × (after-steps (kindOf 6) modelA A6 choice0 2 2 ≡ 80)
+unfolding after-steps sum
+pays-once = (refl, refl, refl)
+
+-- so the 6 from state 0 that was accepted before W-202 is exceeded after 2 steps
+pub six-exceeded : 6 * 4 ^ 2 < after-steps (kindOf 5) modelA (costly (6 ∷ 0 ∷ 0 ∷ []) []) choice0 2 0
+unfolding after-steps sum
+six-exceeded = omega arith
 
 -- the answer and the choices of a case of the proved set
 answered : (i : ℕ) → getD (map (λ (x : Case). answerOf (x .kind) (x .model) (x .claim) (x .choices) .verdict) proved) i pass
@@ -95,5 +114,13 @@ listed history s l = refl
 -- A 6, "at most, some": the choices 1 2 - collect no more than 3 from state 0, after any number of steps
 pub at-most-three : (σ : Strategy) → FromList (1 ∷ 2 ∷ none ∷ []) σ → (steps : ℕ) → 1 * after-steps (kindOf 6) modelA A6 σ steps 0 ≤ 3 * 4 ^ steps
 at-most-three σ h steps =
-    let f : FromList (choicesOf 6 modelA A6 lent) σ = rw (chosen 9) h in
-    demand3 6 modelA A6 lent 0 (answered 9) σ f 0 (omega arith) steps
+    let f : FromList (choicesOf 6 modelA A6 lent) σ = rw (chosen 14) h in
+    demand3 6 modelA A6 lent 0 (answered 14) σ f 0 (omega arith) steps
+
+-- A 8, "at least, some": the choices 0 2 - miss 8 from state 0 by at most (3/4)^m of 8 after m steps
+pub at-least-eight : (σ : Strategy) → FromList (0 ∷ 2 ∷ none ∷ []) σ → (m : ℕ)
+    → (8 * 4 ^ m - 1 * after-steps (kindOf 8) modelA A8 σ m 0) * 4 ^ m ≤ 8 * 4 ^ m * 3 ^ m
+unfolding whole
+at-least-eight σ h m =
+    let f : FromList (choicesOf 8 modelA A8 lent) σ = rw (chosen 16) h in
+    rw (mul-one m, one-mul m) at (demand3 8 modelA A8 lent 1 (answered 16) σ f 0 (omega arith) m)

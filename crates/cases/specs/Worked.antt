@@ -1,4 +1,4 @@
--- The small models that document 01 works out, and all its cases in one table.
+-- The small models that document 01 works out, and all its cases in one table, as W-202 changed them.
 use Prim.Native.Nat.{ℕ}
 use mathlib.Core.List.{List, [], _∷_}
 use lib.ListN.{set}
@@ -66,7 +66,8 @@ pub record Case : Type 0 where
 abbrev case : Model → ℕ → Claim → List ℕ → Verdict → List ℕ → Case
 case t k u w v x = record { model = t; kind = k; claim = u; choices = w; answer = v; chosen = x }
 
--- the cases marked P, and the refusals named below the table: the proved set
+-- The cases marked P, the refusals named below the table, and a target's claim on both sides of its cost and without a rank: the
+-- proved set. Before W-202 model A, kind 5, claims 6 0 0 and kind 6, claims 3 0 0 were accepted, and kind 8, claims 8 0 5 broke 21.
 abbrev pub proved : List Case
 proved =
     case modelA 1 (arrival 8 (4 ∷ 0 ∷ 8 ∷ []) []) unlent (Accepted 0) unlent
@@ -77,9 +78,18 @@ proved =
     ∷ case modelA 4 (arrival 8 (4 ∷ 0 ∷ 8 ∷ []) (1 ∷ none ∷ 0 ∷ [])) lent (Accepted 1) (0 ∷ 2 ∷ none ∷ [])
     ∷ case modelA 4 (arrival 8 (4 ∷ 8 ∷ 8 ∷ []) (1 ∷ none ∷ 0 ∷ [])) lent (Violated 23 1 none) lent
     ∷ case modelA 4 (arrival 8 (4 ∷ 8 ∷ 8 ∷ []) (2 ∷ 1 ∷ 0 ∷ [])) lent (Violated 24 1 none) lent
-    ∷ case modelA 5 (costly (6 ∷ 0 ∷ 0 ∷ []) []) unlent (Accepted 0) unlent
-    ∷ case modelA 6 (costly (3 ∷ 0 ∷ 0 ∷ []) []) lent (Accepted 0) (1 ∷ 2 ∷ none ∷ [])
+    ∷ case modelA 5 (costly (9 ∷ 0 ∷ 5 ∷ []) []) unlent (Accepted 0) unlent
+    ∷ case modelA 5 (costly (8 ∷ 0 ∷ 5 ∷ []) []) unlent (Violated 22 0 0) unlent
+    ∷ case modelA 5 (costly (9 ∷ 0 ∷ 6 ∷ []) []) unlent (Accepted 0) unlent
+    ∷ case modelA 5 (costly (9 ∷ 0 ∷ 4 ∷ []) []) unlent (Violated 21 2 none) unlent
+    ∷ case modelA 5 (costly (6 ∷ 0 ∷ 0 ∷ []) []) unlent (Violated 21 2 none) unlent
+    ∷ case modelA 6 (costly (3 ∷ 0 ∷ 0 ∷ []) []) lent (Violated 21 2 none) lent
+    ∷ case modelA 6 (costly (3 ∷ 0 ∷ 5 ∷ []) []) lent (Accepted 0) (1 ∷ 2 ∷ none ∷ [])
     ∷ case modelA 7 (costly (3 ∷ 0 ∷ 0 ∷ []) (1 ∷ none ∷ 0 ∷ [])) unlent (Violated 24 0 1) unlent
+    ∷ case modelA 8 (costly (8 ∷ 0 ∷ 5 ∷ []) (1 ∷ none ∷ 0 ∷ [])) lent (Accepted 1) (0 ∷ 2 ∷ none ∷ [])
+    ∷ case modelA 8 (costly (8 ∷ 0 ∷ 4 ∷ []) (1 ∷ none ∷ 0 ∷ [])) lent (Accepted 1) (0 ∷ 2 ∷ none ∷ [])
+    ∷ case modelA 8 (costly (8 ∷ 0 ∷ 6 ∷ []) (1 ∷ none ∷ 0 ∷ [])) lent (Violated 21 2 none) lent
+    ∷ case modelA 8 (costly (0 ∷ 0 ∷ 5 ∷ []) (none ∷ none ∷ none ∷ [])) lent (Violated 23 2 none) lent
     ∷ case modelB 4 (arrival 4 (4 ∷ 4 ∷ 0 ∷ []) (1 ∷ 0 ∷ none ∷ [])) lent (Violated 24 0 none) lent
     ∷ case (reweighted 0 3) 1 (arrival 8 (4 ∷ 0 ∷ 8 ∷ []) []) unlent (Refused 11 0) unlent
     ∷ case (reweighted 2 0) 1 (arrival 8 (4 ∷ 0 ∷ 8 ∷ []) []) unlent (Refused 10 2) unlent
@@ -88,9 +98,8 @@ proved =
     ∷ case modelA 4 (arrival 8 (4 ∷ 0 ∷ 8 ∷ []) (3 ∷ none ∷ 0 ∷ [])) lent (Refused 14 0) lent
     ∷ []
 
--- the other cases of the table, which are run
+-- the other case of the table, which is run
 abbrev pub run : List Case
 run =
-    case modelA 5 (costly (5 ∷ 0 ∷ 0 ∷ []) []) unlent (Violated 22 0 0) unlent
-    ∷ case modelA 8 (costly (6 ∷ 0 ∷ 0 ∷ []) (1 ∷ none ∷ 0 ∷ [])) lent (Accepted 1) (0 ∷ 2 ∷ none ∷ [])
+    case modelA 8 (costly (6 ∷ 0 ∷ 0 ∷ []) (1 ∷ none ∷ 0 ∷ [])) lent (Accepted 1) (0 ∷ 2 ∷ none ∷ [])
     ∷ []

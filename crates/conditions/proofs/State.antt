@@ -91,11 +91,11 @@ unfolding fallAsked
 fall-least k rank e = is-true (isAtLeast (k .bound)) (and-left (isAtLeast (k .bound)) (isRank rank) (holds e))
 
 module _ (k : Kind) (c : ℕ) (x : State) where
-  pub target-met : targetAsks k c (x .claim) ≡ true → targetVerdict k c x ≡ verdict23 k x
+  pub target-met : targetAsks k c (x .cost) (x .claim) ≡ true → targetVerdict k c x ≡ verdict23 k x
   unfolding targetVerdict tried ask then verdict23
   target-met e = rw e (word (rankAsks k (x .claim) (x .rank)) 23 (x .place))
 
-  pub target-broken : targetAsks k c (x .claim) ≡ false → targetVerdict k c x ≡ ask false 21 (x .place) none
+  pub target-broken : targetAsks k c (x .cost) (x .claim) ≡ false → targetVerdict k c x ≡ ask false 21 (x .place) none
   unfolding targetVerdict tried ask then
   target-broken e = rw e
 

@@ -26,7 +26,7 @@ verdict23 k x = ask (rankAsks k (x .claim) (x .rank)) 23 (x .place) none
 -- 21 and 23 at a target
 unfoldable pub targetVerdict : Kind → ℕ → State → Verdict
 unfolding tried ask targetAsks verdict23
-targetVerdict k c x = tried (ask (targetAsks k c (x .claim)) 21 (x .place) none ∷ verdict23 k x ∷ []) pass
+targetVerdict k c x = tried (ask (targetAsks k c (x .cost) (x .claim)) 21 (x .place) none ∷ verdict23 k x ∷ []) pass
 
 -- 22 to 24 at a non-target, and the action chosen
 unfoldable pub openVerdict : Kind → State → Rows → Verdict

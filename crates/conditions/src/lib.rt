@@ -18,17 +18,18 @@ use model::Kind;
 use model::Rank;
 use model::Verdict;
 
-// What 21 asks of a target's claim: C (arrival, at most), or 0 (cost, at least); other kinds ask nothing.
-fn target_claim(kind: Kind, c: u32, claim: u64) -> bool
-    ensures { λ r. ⌜ r ≡ targetAsks kind c claim ⌝ }
+// What 21 asks of a target's claim: C (arrival, at most); no less than the target's cost (cost, at most), or no more (cost, at least);
+// nothing else.
+fn target_claim(kind: Kind, c: u32, cost: u32, claim: u64) -> bool
+    ensures { λ r. ⌜ r ≡ targetAsks kind c cost claim ⌝ }
 {
     let measure = kind.measure;
     let bound = kind.bound;
     if measure.is_cost() {
         if bound.is_at_least() {
-            return claim == 0;
+            return claim <= cost as u64;
         }
-        return true;
+        return cost as u64 <= claim;
     }
     if bound.is_at_least() {
         return true;
@@ -91,7 +92,7 @@ fn ranked(kind: Kind, state: State) -> Verdict
 fn judge_target(kind: Kind, c: u32, state: State) -> Verdict
     ensures { λ r. ⌜ r ≡ targetVerdict kind c state ⌝ }
 {
-    if target_claim(kind, c, state.claim) {
+    if target_claim(kind, c, state.cost, state.claim) {
         return ranked(kind, state);
     }
     ask(false, Condition::TARGET, state.place, Rank::NONE)

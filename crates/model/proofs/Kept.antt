@@ -2,7 +2,7 @@
 use mathlib.Core.Path.{_≡_, refl, sym, subst}
 use mathlib.Core.Bool.{Bool, true, false, cond, not, _&&_, _||_}
 use mathlib.Core.List.{[], _∷_}
-use Prim.Native.Nat.{ℕ, zero, suc, _+_, _*_, _<_}
+use Prim.Native.Nat.{ℕ, zero, suc, _+_, _*_, _≤_, _<_}
 use native.Mathlib.Omega.{arith}
 use lib.Dec.{T, leb, ltb, eqb, leb→le, le→leb, ltb→lt, lt→ltb, eqb→eq}
 use borrow.Author.Tests.{eq-eqb, ne-eqb, not-true}
@@ -18,7 +18,7 @@ use Rattle.model.specs.declared.kinds.Who.{Who}
 use Rattle.model.specs.declared.kinds.Who.the-variants.{Every, Some}
 use Rattle.model.specs.Limits.{none}
 use Rattle.model.specs.Kinds.{isCost, isAtLeast, isSome}
-use Rattle.model.specs.Tables.{Model, Claim, target, firstAction, firstBranch, destination, scale, claim, rank, ranked}
+use Rattle.model.specs.Tables.{Model, Claim, target, firstAction, firstBranch, destination, scale, cost, claim, rank, ranked}
 use Rattle.model.specs.Answers.{pass}
 use Rattle.model.specs.Checked.{accepts}
 use Rattle.model.specs.Conditions.{expected, suits, falls, everyAction, someAction, lowestAction, ask, askActions, targetAsks, condition21}
@@ -154,21 +154,25 @@ module _ (k : Kind) (t : Model) (x s : ℕ) (every some : ℕ → Bool) (E S : �
           (at-any some (firstAction t s) (firstAction t (s + 1)) (h .0) (h .1 .0) (h .1 .1) (f (h .0) (h .2)))
 
 -- what a target's claim is asked to be, by measure and bound
-module _ (m : Measure) (b : Bound) (r c : ℕ) where
+module _ (m : Measure) (b : Bound) (c x r : ℕ) where
   abbrev asked : Bool
-  asked = cond (isCost m) (cond (isAtLeast b) (eqb r 0) true) (cond (isAtLeast b) true (eqb r c))
+  asked = cond (isCost m) (cond (isAtLeast b) (leb r x) (leb x r)) (cond (isAtLeast b) true (eqb r c))
 
   asked-arrival : T asked → m ≡ Arrival → b ≡ AtMost → r ≡ c
   asked-arrival h e f = eqb→eq r c (rw (e, f) at h)
 
-  asked-cost : T asked → m ≡ Cost → b ≡ AtLeast → r ≡ 0
-  asked-cost h e f = eqb→eq r 0 (rw (e, f) at h)
+  asked-most : T asked → m ≡ Cost → b ≡ AtMost → x ≤ r
+  asked-most h e f = leb→le x r (rw (e, f) at h)
 
-of-asked : (m : Measure) (b : Bound) (r c : ℕ) → (m ≡ Arrival → b ≡ AtMost → r ≡ c) → (m ≡ Cost → b ≡ AtLeast → r ≡ 0) → T (asked m b r c)
-of-asked Arrival AtMost r c g h = holds (eq-eqb r c (g refl refl))
-of-asked Arrival AtLeast r c g h = tt
-of-asked Cost AtMost r c g h = tt
-of-asked Cost AtLeast r c g h = holds (eq-eqb r 0 (h refl refl))
+  asked-least : T asked → m ≡ Cost → b ≡ AtLeast → r ≤ x
+  asked-least h e f = leb→le r x (rw (e, f) at h)
+
+of-asked : (m : Measure) (b : Bound) (c x r : ℕ)
+    → (m ≡ Arrival → b ≡ AtMost → r ≡ c) → (m ≡ Cost → b ≡ AtMost → x ≤ r) → (m ≡ Cost → b ≡ AtLeast → r ≤ x) → T (asked m b c x r)
+of-asked Arrival AtMost c x r f g h = holds (eq-eqb r c (f refl refl))
+of-asked Arrival AtLeast c x r f g h = tt
+of-asked Cost AtMost c x r f g h = le→leb x r (g refl refl)
+of-asked Cost AtLeast c x r f g h = le→leb r x (h refl refl)
 
 pub at-least : (b : Bound) → T (isAtLeast b) → b ≡ AtLeast
 at-least AtMost h = absurd h
@@ -193,11 +197,13 @@ module _ (k : Kind) (t : Model) (u : Claim) (s : ℕ) where
   unfolding judged condition21 condition22 condition23 condition24 targetAsks rankAsks
   met h =
       let c = tried-all (condition21 k t u s ∷ condition22 k t u s ∷ condition23 k u s ∷ condition24 k t u s ∷ []) pass h in
-      let claimed : target t s ≡ true → T (targetAsks k (u .c) (claim u s)) =
-      λ e. unless-true (target t s) (targetAsks k (u .c) (claim u s)) e (ask-right (not (target t s) || targetAsks k (u .c) (claim u s)) 21 s none (c .0)) in
+      let claimed : target t s ≡ true → T (targetAsks k (u .c) (cost u s) (claim u s)) =
+      λ e. unless-true (target t s) (targetAsks k (u .c) (cost u s) (claim u s)) e
+      (ask-right (not (target t s) || targetAsks k (u .c) (cost u s) (claim u s)) 21 s none (c .0)) in
       record {
-        met21-arrival = λ e. asked-arrival (k .measure) (k .bound) (claim u s) (u .c) (claimed e);
-        met21-cost = λ e. asked-cost (k .measure) (k .bound) (claim u s) (u .c) (claimed e);
+        met21-arrival = λ e. asked-arrival (k .measure) (k .bound) (u .c) (cost u s) (claim u s) (claimed e);
+        met21-cost-most = λ e. asked-most (k .measure) (k .bound) (u .c) (cost u s) (claim u s) (claimed e);
+        met21-cost-least = λ e. asked-least (k .measure) (k .bound) (u .c) (cost u s) (claim u s) (claimed e);
         met22 = λ e. for-actions k t 22 s (suits k t u s) (suits k t u s) (Suits k t u s) (Suits k t u s) (suited k t u s) (suited k t u s)
             (cond-else (target t s) (askActions k t 22 s (suits k t u s) (suits k t u s)) e (c .1 .0));
         met23 = λ b p. not-none (rank u s)
@@ -214,9 +220,10 @@ module _ (k : Kind) (t : Model) (u : Claim) (s : ℕ) where
   unfolding judged condition21 condition22 condition23 condition24 targetAsks rankAsks
   of-met w =
       tried-passed (condition21 k t u s ∷ condition22 k t u s ∷ condition23 k u s ∷ condition24 k t u s ∷ []) pass (
-        right-ask (not (target t s) || targetAsks k (u .c) (claim u s)) 21 s none
-            (true-unless (target t s) (targetAsks k (u .c) (claim u s))
-            (λ e. of-asked (k .measure) (k .bound) (claim u s) (u .c) (w .met21-arrival e) (w .met21-cost e))),
+        right-ask (not (target t s) || targetAsks k (u .c) (cost u s) (claim u s)) 21 s none
+            (true-unless (target t s) (targetAsks k (u .c) (cost u s) (claim u s))
+            (λ e. of-asked (k .measure) (k .bound) (u .c) (cost u s) (claim u s)
+            (w .met21-arrival e) (w .met21-cost-most e) (w .met21-cost-least e))),
         (
           else-cond (target t s) (askActions k t 22 s (suits k t u s) (suits k t u s))
               (λ e. of-actions k t 22 s (suits k t u s) (suits k t u s) (Suits k t u s) (Suits k t u s) (of-suited k t u s) (of-suited k t u s) (w .met22 e)),

@@ -16,7 +16,7 @@ use Rattle.model.specs.declared.kinds.Kind.{Kind}
 use Rattle.model.specs.declared.kinds.Who.{Who}
 use Rattle.model.specs.declared.kinds.Who.the-variants.{Every, Some}
 use Rattle.model.specs.Limits.{none}
-use Rattle.model.specs.Tables.{Model, Claim, target, claim, rank}
+use Rattle.model.specs.Tables.{Model, Claim, target, cost, claim, rank}
 use Rattle.model.specs.Answers.{pass, isCondition}
 use Rattle.model.specs.Checked.{accepts}
 use Rattle.model.specs.Conditions.{suits, falls, everyAction, someAction, lowestAction, ask, askActions, targetAsks, condition21, condition22}
@@ -120,7 +120,7 @@ asked-where false v y z a e = absurd (subst (λ w. T (accepts w)) e tt)
 module _ (k : Kind) (t : Model) (u : Claim) (s y z a : ℕ) where
   pub named21 : condition21 k t u s ≡ Violated y z a → a ≡ none
   unfolding condition21
-  named21 e = asked (not (target t s) || targetAsks k (u .c) (claim u s)) 21 s none y z a e .1
+  named21 e = asked (not (target t s) || targetAsks k (u .c) (cost u s) (claim u s)) 21 s none y z a e .1
 
   pub named22 : condition22 k t u s ≡ Violated y z a → Naming (k .who) t s a (Suits k t u s)
   unfolding condition22

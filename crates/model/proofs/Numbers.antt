@@ -148,7 +148,7 @@ module _ (x s : ℕ) where
 module _ (k : Kind) (t : Model) (u : Claim) (s : ℕ) where
   pub only21 : Only 21 s (condition21 k t u s)
   unfolding condition21
-  only21 = ask-only 21 s (not (target t s) || targetAsks k (u .c) (claim u s)) none
+  only21 = ask-only 21 s (not (target t s) || targetAsks k (u .c) (cost u s) (claim u s)) none
 
   pub only22 : Only 22 s (condition22 k t u s)
   unfolding condition22

@@ -74,17 +74,18 @@ unfoldable pub askActions : Kind → Model → ℕ → ℕ → (every some : ℕ
 unfolding ask any all first
 askActions k t number s every some = askOver k number s (firstAction t s) (firstAction t (s + 1)) every some
 
--- what 21 asks of a target's claim: C (arrival, at most), or 0 (cost, at least); other kinds ask nothing
-unfoldable pub targetAsks : Kind → ℕ → ℕ → Bool
-targetAsks k c claim =
+-- what 21 asks of a target's claim: C (arrival, at most); no less than the target's cost (cost, at most), or no more (cost, at least);
+-- nothing else
+unfoldable pub targetAsks : Kind → (c cost claim : ℕ) → Bool
+targetAsks k c cost claim =
     cond (isCost (k .measure))
-    (cond (isAtLeast (k .bound)) (eqb claim 0) true)
+    (cond (isAtLeast (k .bound)) (leb claim cost) (leb cost claim))
     (cond (isAtLeast (k .bound)) true (eqb claim c))
 
 -- 21: a target's claim
 unfoldable pub condition21 : Kind → Model → Claim → ℕ → Verdict
 unfolding ask targetAsks
-condition21 k t u s = ask (not (target t s) || targetAsks k (u .c) (claim u s)) 21 s none
+condition21 k t u s = ask (not (target t s) || targetAsks k (u .c) (cost u s) (claim u s)) 21 s none
 
 -- 22: non-target: all actions suit ("every"), or at least one does ("some")
 unfoldable pub condition22 : Kind → Model → Claim → ℕ → Verdict

@@ -9,7 +9,7 @@ use Rattle.model.specs.declared.kinds.Bound.the-variants.{AtMost, AtLeas
 use Rattle.model.specs.declared.kinds.Who.{Who}
 use Rattle.model.specs.declared.kinds.Who.the-variants.{Every, Some}
 use Rattle.model.specs.Limits.{none}
-use Rattle.model.specs.Tables.{Model, Claim, target, firstAction, firstBranch, destination, scale, claim, rank}
+use Rattle.model.specs.Tables.{Model, Claim, target, firstAction, firstBranch, destination, scale, cost, claim, rank}
 use Rattle.model.specs.Conditions.{expected}
 
 -- state s owns action a, and action a owns branch j
@@ -40,7 +40,8 @@ ForActions Some t s every some = (a : ℕ) × (Owns t s a) × (some a)
 -- state s meets its conditions
 pub record Meets (k : Kind) (t : Model) (u : Claim) (s : ℕ) : Type 0 where
   pub met21-arrival : target t s ≡ true → k .measure ≡ Arrival → k .bound ≡ AtMost → claim u s ≡ u .c
-  pub met21-cost : target t s ≡ true → k .measure ≡ Cost → k .bound ≡ AtLeast → claim u s ≡ 0
+  pub met21-cost-most : target t s ≡ true → k .measure ≡ Cost → k .bound ≡ AtMost → cost u s ≤ claim u s
+  pub met21-cost-least : target t s ≡ true → k .measure ≡ Cost → k .bound ≡ AtLeast → claim u s ≤ cost u s
   pub met22 : target t s ≡ false → ForActions (k .who) t s (Suits k t u s) (Suits k t u s)
   pub met23 : k .bound ≡ AtLeast → 0 < claim u s → rank u s ≡ none → ⊥
   pub met24 : k .bound ≡ AtLeast → target t s ≡ false → (rank u s ≡ none → ⊥)

@@ -32,6 +32,7 @@ use Rattle.model.proofs.Tied.{accepted, written, rank-below}
 use Rattle.soundness.specs.Process.{Step, Strategy}
 use Rattle.soundness.specs.Demand3.{targetWorth, stepGain, processOf, after-steps, FromList, Meant, whole, Bounded, Holds}
 use Rattle.soundness.proofs.Conditions as conditions
+use Rattle.soundness.proofs.Steps.{stepped-stop}
 use Rattle.soundness.proofs.Never.{never-exceeded}
 use Rattle.soundness.proofs.Remainder.{missed-by}
 
@@ -41,13 +42,15 @@ one-pow (suc R) = rw (pow-suc 1 R, one-pow R) refl
 
 -- what the measure decides: a target's worth, a step's gain, and the whole
 
-worth-at-most : (m : Measure) (c r : ℕ) → (m ≡ Arrival → r ≡ c) → c * cond (isCost m) 0 1 ≤ r
-worth-at-most Arrival c r h = omega (arith, h refl)
-worth-at-most Cost c r h = omega arith
+worth-at-most : (m : Measure) (c x r : ℕ) → (isCost m ≡ true → c ≡ 1) → (m ≡ Arrival → r ≡ c) → (m ≡ Cost → x ≤ r)
+    → c * cond (isCost m) x 1 ≤ r
+worth-at-most Arrival c x r e f g = omega (arith, f refl)
+worth-at-most Cost c x r e f g = rw (e refl) (omega (arith, g refl))
 
-worth-at-least : (m : Measure) (c r most : ℕ) → r ≤ cond (isCost m) most c → (m ≡ Cost → r ≡ 0) → r ≤ c * cond (isCost m) 0 1
-worth-at-least Arrival c r most l h = omega arith
-worth-at-least Cost c r most l h = omega (arith, h refl)
+worth-at-least : (m : Measure) (c x r most : ℕ) → (isCost m ≡ true → c ≡ 1) → r ≤ cond (isCost m) most c → (m ≡ Cost → r ≤ x)
+    → r ≤ c * cond (isCost m) x 1
+worth-at-least Arrival c x r most e l g = omega arith
+worth-at-least Cost c x r most e l g = rw (e refl) (omega (arith, g refl))
 
 gained : (m : Measure) (c d x : ℕ) → (isCost m ≡ true → c ≡ 1) → cond (isCost m) (d * x) 0 ≡ c * (d * cond (isCost m) x 0)
 gained Arrival c d x h = omega arith
@@ -91,7 +94,8 @@ module _ (k : Kind) (t : Model) (u : Claim) (chosen : ℕ)
   at-most b =
       record {
         closed = closed;
-        at-stop = λ s w e. worth-at-most (k .measure) (u .c) (claim u s) (λ m. meets s w .met21-arrival e m b);
+        at-stop = λ s w e. worth-at-most (k .measure) (u .c) (cost u s) (claim u s) (formed .sized .c-cost)
+            (λ m. meets s w .met21-arrival e m b) (λ m. meets s w .met21-cost-most e m b);
         at-step = λ s a w e o.
             let q : SuitsBy AtMost k t u s a = subst (λ x. SuitsBy x k t u s a) b (keeps s a w e o .suits) in
             rw (expected-is s a) at q;
@@ -107,7 +111,8 @@ module _ (k : Kind) (t : Model) (u : Claim) (chosen : ℕ)
         bounded = λ s w. in-whole (k .measure) (u .c) (claim u s) mostCostClaim _ (claim-in-range s w)
             (le-greatest (claim u) (length (u .claims)) s 0 zero-le (omega (arith, formed .sized .table7)));
         topped = λ s w p. rank-below u s (long s w) (meets s w .met23 b p);
-        at-stop = λ s w e. worth-at-least (k .measure) (u .c) (claim u s) mostCostClaim (claim-in-range s w) (λ m. meets s w .met21-cost e m b);
+        at-stop = λ s w e. worth-at-least (k .measure) (u .c) (cost u s) (claim u s) mostCostClaim (formed .sized .c-cost)
+            (claim-in-range s w) (λ m. meets s w .met21-cost-least e m b);
         at-step = λ s a w e o.
             let q : SuitsBy AtLeast k t u s a = subst (λ x. SuitsBy x k t u s a) b (keeps s a w e o .suits) in
             rw (expected-is s a) at q;
@@ -154,3 +159,15 @@ demand3 kind t u choices R e =
     let d = accepted kind t u choices R e in
     rw (d .greatest)
     (holds-so (kindOf kind) t u (length choices) (columns kind) (d .formed) (d .meets) (choicesOf kind t u choices) (written kind t u choices R e))
+
+-- a target has its worth at every step count, 0 included
+pub at-target : (k : Kind) (t : Model) (u : Claim) (σ : Strategy) (steps s : ℕ) → target t s ≡ true
+    → after-steps k t u σ steps s ≡ t .d ^ steps * targetWorth k u s
+unfolding after-steps processOf
+at-target k t u σ steps s e = stepped-stop (processOf k t u) σ s steps e
+
+-- so its stepped cost is its own cost, once
+pub target-cost : (k : Kind) (t : Model) (u : Claim) (σ : Strategy) (steps s : ℕ) → target t s ≡ true → k .measure ≡ Cost
+    → after-steps k t u σ steps s ≡ t .d ^ steps * cost u s
+unfolding targetWorth
+target-cost k t u σ steps s e m = at-target k t u σ steps s e ∙ rw m

@@ -16,9 +16,9 @@ use Rattle.model.specs.Tables.{Model, Claim, states, target, firstBranch, desti
 use Rattle.model.specs.Meets.{Owns}
 use Rattle.soundness.specs.Process.{Process, Step, Strategy, stepped}
 
--- a target's worth at every step: 1 for arrival; its stepped cost is 0
+-- a target's worth at every step count, 0 included: 1 for arrival, its own cost for cost
 unfoldable pub targetWorth : Kind → Claim → ℕ → ℕ
-targetWorth k u s = cond (isCost (k .measure)) 0 1
+targetWorth k u s = cond (isCost (k .measure)) (cost u s) 1
 
 -- what a step from a state adds: nothing for arrival, the state's cost for cost
 unfoldable pub stepGain : Kind → Claim → ℕ → ℕ

@@ -1,6 +1,6 @@
 //! Well-formed models with claims that hold.
 
-use std::ops::Range;
+use std::ops::{Range, RangeInclusive};
 
 use super::rng::Rng;
 use crate::file::Certificate;
@@ -62,6 +62,21 @@ pub fn actions_of(made: &Certificate, state: usize) -> Range<usize> {
 /// The branches of an action.
 pub fn branches_of(made: &Certificate, action: usize) -> Range<usize> {
     made.branch_starts[action] as usize..made.branch_starts[action + 1] as usize
+}
+
+/// The cost of a state, 0 for arrival kinds.
+fn cost_of(made: &Certificate, state: usize) -> u32 {
+    made.costs.get(state).copied().unwrap_or(0)
+}
+
+fn targets(made: &Certificate) -> Vec<usize> {
+    let states = 0..made.marks.len();
+    states.filter(|&state| made.marks[state] == 1).collect()
+}
+
+/// The claims that condition 21 allows at a target.
+fn allowed_at_target(made: &Certificate, target: usize) -> RangeInclusive<u64> {
+    kind_of(made).allowed_at_target(made.c, cost_of(made, target))
 }
 
 fn claimed(rng: &mut Rng, kind: u32, d: u32, size: &Size) -> Certificate {
@@ -216,16 +231,15 @@ fn parts(rng: &mut Rng, whole: u32, count: usize) -> Vec<u32> {
 /// claims from above.
 fn claim_at_most(rng: &mut Rng, made: &mut Certificate) {
     let kind = kind_of(made);
-    let at_targets = if kind.cost {
+    let above_least = if kind.cost {
         rng.pick(&[0, 0, 1, 20])
     } else {
-        u64::from(made.c)
+        0
     };
-    made.claims = made
-        .marks
-        .iter()
-        .map(|&mark| u64::from(mark) * at_targets)
-        .collect();
+    made.claims = vec![0; made.marks.len()];
+    for target in targets(made) {
+        made.claims[target] = allowed_at_target(made, target).start() + above_least;
+    }
     let from_above = !kind.cost && rng.one_in(4);
     if from_above || !raise_to_fixed_point(made) {
         claim_from_above(rng, made);
@@ -248,18 +262,25 @@ fn raise_to_fixed_point(made: &mut Certificate) -> bool {
     false
 }
 
-/// One claim for all states holds if there are no costs; so does each round
-/// that starts from it.
+/// One claim for all states holds if condition 21 allows it at the targets and
+/// no other state has a cost; so does each round that starts from it.
 fn claim_from_above(rng: &mut Rng, made: &mut Certificate) {
     let claim = if kind_of(made).cost {
-        made.costs.fill(0);
-        rng.pick(&[0, 5, MAX_COST_CLAIM])
+        drop_costs_of_open_states(made);
+        let least = made.costs.iter().copied().max().map_or(0, u64::from);
+        rng.pick(&[least, least + 5, MAX_COST_CLAIM])
     } else {
         u64::from(made.c)
     };
     made.claims = vec![claim; made.marks.len()];
     for _ in 0..rng.index(20) {
         made.claims = rounded_up(made);
+    }
+}
+
+fn drop_costs_of_open_states(made: &mut Certificate) {
+    for (cost, &mark) in made.costs.iter_mut().zip(&made.marks) {
+        *cost *= u32::from(mark);
     }
 }
 
@@ -299,9 +320,9 @@ fn rounded_up(made: &Certificate) -> Vec<u64> {
 /// Ranks by distance, then claims from 0 by rounding down.
 fn claim_at_least(rng: &mut Rng, made: &mut Certificate) {
     let followed = rank_by_distance(rng, made);
-    made.claims = made.marks.iter().map(|_| 0).collect();
-    if !kind_of(made).cost {
-        claim_arrival_at_targets(rng, made);
+    made.claims = vec![0; made.marks.len()];
+    for target in targets(made) {
+        made.claims[target] = claim_of_target(rng, made, target);
     }
     for _ in 0..rng.between(1, 60) {
         made.claims = rounded_down(made, &followed);
@@ -309,12 +330,15 @@ fn claim_at_least(rng: &mut Rng, made: &mut Certificate) {
     spread_ranks(rng, made);
 }
 
-fn claim_arrival_at_targets(rng: &mut Rng, made: &mut Certificate) {
-    let c = u64::from(made.c);
-    for (claim, &mark) in made.claims.iter_mut().zip(&made.marks) {
-        if mark == 1 {
-            *claim = if rng.one_in(8) { rng.between(0, c) } else { c };
-        }
+/// Mostly the most that condition 21 allows at a target.
+fn claim_of_target(rng: &mut Rng, made: &Certificate, target: usize) -> u64 {
+    let most = *allowed_at_target(made, target).end();
+    if kind_of(made).cost && rng.one_in(3) {
+        rng.pick(&[0, most.saturating_sub(1)])
+    } else if rng.one_in(8) {
+        rng.between(0, most)
+    } else {
+        most
     }
 }
 
@@ -397,14 +421,13 @@ fn spread_ranks(rng: &mut Rng, made: &mut Certificate) {
 
 /// The E of document 01.
 fn sum(made: &Certificate, state: usize, action: usize) -> u64 {
-    let cost = made.costs.get(state).copied().unwrap_or(0);
     let of_branches: u64 = branches_of(made, action)
         .map(|branch| {
             let claim = made.claims[made.destinations[branch] as usize];
             u64::from(made.weights[branch]) * claim
         })
         .sum();
-    of_branches + u64::from(made.d) * u64::from(cost)
+    of_branches + u64::from(made.d) * u64::from(cost_of(made, state))
 }
 
 #[cfg(test)]

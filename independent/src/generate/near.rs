@@ -21,12 +21,31 @@ fn miss_at_target(rng: &mut Rng, made: &mut Certificate) {
         return;
     };
     let greatest = greatest_claim(made);
-    let off = if rng.one_in(2) {
+    made.claims[state] = match made.costs.get(state) {
+        Some(&cost) => beside(rng, u64::from(cost), greatest),
+        None => {
+            let off = one_or_more(rng, greatest);
+            made.claims[state].abs_diff(off).min(greatest)
+        }
+    };
+}
+
+/// A claim below or above a cost: condition 21 allows one of the two sides.
+fn beside(rng: &mut Rng, cost: u64, greatest: u64) -> u64 {
+    if cost > 0 && rng.one_in(2) {
+        cost - one_or_more(rng, cost)
+    } else {
+        cost + one_or_more(rng, greatest - cost)
+    }
+}
+
+/// One unit, or any number of them up to the most.
+fn one_or_more(rng: &mut Rng, most: u64) -> u64 {
+    if rng.one_in(2) {
         1
     } else {
-        rng.between(1, greatest)
-    };
-    made.claims[state] = made.claims[state].abs_diff(off).min(greatest);
+        rng.between(1, most)
+    }
 }
 
 fn miss_by_claim(rng: &mut Rng, made: &mut Certificate) {

@@ -1,4 +1,4 @@
-//! The worked cases of document 01.
+//! The worked cases of document 01, as request W-202 changes them.
 
 use crate::models::{checked, held, model_a, model_b, UNTOUCHED};
 use independent::file::{write, Certificate};
@@ -7,14 +7,21 @@ use independent::tables::NONE;
 
 const UNRANKED: &[u32] = &[];
 const SINK: &[u32] = &[1, NONE, 0];
+const ALL_UNRANKED: &[u32] = &[NONE; 3];
 
 fn printed(claim: &Certificate) -> String {
     answer(&write(claim), Room::CHECK).to_string()
 }
 
+fn assert_printed(rows: &[(Certificate, &str)]) {
+    for (claim, expected) in rows {
+        assert_eq!(printed(claim), *expected, "{claim:?}");
+    }
+}
+
 #[test]
 fn the_table_of_cases() {
-    let rows = [
+    assert_printed(&[
         (model_a(1, [4, 0, 8], UNRANKED), "accepted 0\n"),
         (model_a(1, [3, 0, 8], UNRANKED), "violated 22 0 0\n"),
         (model_a(1, [4, 0, 7], UNRANKED), "violated 21 2 -\n"),
@@ -26,19 +33,39 @@ fn the_table_of_cases() {
         (model_a(4, [4, 0, 8], SINK), "accepted 1\n0 0\n1 2\n2 -\n"),
         (model_a(4, [4, 8, 8], SINK), "violated 23 1 -\n"),
         (model_a(4, [4, 8, 8], &[2, 1, 0]), "violated 24 1 -\n"),
-        (model_a(5, [6, 0, 0], UNRANKED), "accepted 0\n"),
+        (model_a(5, [9, 0, 5], UNRANKED), "accepted 0\n"),
+        (model_a(5, [8, 0, 5], UNRANKED), "violated 22 0 0\n"),
+        (model_a(5, [6, 0, 0], UNRANKED), "violated 21 2 -\n"),
         (model_a(5, [5, 0, 0], UNRANKED), "violated 22 0 0\n"),
+        (model_a(6, [3, 0, 0], UNRANKED), "violated 21 2 -\n"),
         (
-            model_a(6, [3, 0, 0], UNRANKED),
+            model_a(6, [3, 0, 5], UNRANKED),
             "accepted 0\n0 1\n1 2\n2 -\n",
         ),
         (model_a(7, [3, 0, 0], SINK), "violated 24 0 1\n"),
         (model_a(8, [6, 0, 0], SINK), "accepted 1\n0 0\n1 2\n2 -\n"),
         (model_b(4, [4, 4, 0], &[1, 0, NONE]), "violated 24 0 -\n"),
-    ];
-    for (claim, expected) in rows {
-        assert_eq!(printed(&claim), expected, "{claim:?}");
-    }
+    ]);
+}
+
+#[test]
+fn claims_beside_the_cost_of_the_target() {
+    assert_printed(&[
+        (model_a(5, [9, 0, 6], UNRANKED), "accepted 0\n"),
+        (model_a(5, [9, 0, 4], UNRANKED), "violated 21 2 -\n"),
+        (model_a(8, [8, 0, 5], SINK), "accepted 1\n0 0\n1 2\n2 -\n"),
+        (model_a(8, [8, 0, 4], SINK), "accepted 1\n0 0\n1 2\n2 -\n"),
+        (model_a(8, [8, 0, 6], SINK), "violated 21 2 -\n"),
+    ]);
+}
+
+#[test]
+fn a_claimed_target_has_a_rank() {
+    assert_printed(&[
+        (model_a(7, [0, 0, 0], ALL_UNRANKED), "accepted 0\n"),
+        (model_a(7, [0, 0, 5], ALL_UNRANKED), "violated 23 2 -\n"),
+        (model_a(7, [0, 0, 6], ALL_UNRANKED), "violated 21 2 -\n"),
+    ]);
 }
 
 #[test]
