@@ -19,7 +19,7 @@ use model::Rank;
 use model::Verdict;
 
 // What 21 asks of a target's claim: C (arrival, at most); no less than the target's cost (cost, at most), or no more (cost, at least);
-// nothing else.
+// of arrival, at least, it asks nothing.
 fn target_claim(kind: Kind, c: u32, cost: u32, claim: u64) -> bool
     ensures { λ r. ⌜ r ≡ targetAsks kind c cost claim ⌝ }
 {

@@ -75,7 +75,7 @@ unfolding ask any all first
 askActions k t number s every some = askOver k number s (firstAction t s) (firstAction t (s + 1)) every some
 
 -- what 21 asks of a target's claim: C (arrival, at most); no less than the target's cost (cost, at most), or no more (cost, at least);
--- nothing else
+-- of arrival, at least, it asks nothing
 unfoldable pub targetAsks : Kind → (c cost claim : ℕ) → Bool
 targetAsks k c cost claim =
     cond (isCost (k .measure))
