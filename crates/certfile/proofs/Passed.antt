@@ -83,7 +83,7 @@ module _ (l file : List ℕ) (h : Header) where
   has-room : outcomeOf l file ≡ Read h → Roomy h l
   has-room e = room-at (announced h) l (all-roomy h l (passed e .counts))
 
--- what each fill asks, at a table's place and number of entries
+-- what each read asks, at a table's place and number of entries
 pub record Rooms (place count : Lengths) (file : List ℕ) (t : Tables) : Type 0 where
   pub marks : (place .marks + count .marks * 1 ≤ length file) × (count .marks ≤ length (t .marks))
   pub actionStarts : (place .«action_starts» + count .«action_starts» * 4 ≤ length file) × (count .«action_starts» ≤ length (t .actionStarts))
@@ -113,7 +113,7 @@ module _ (h : Header) (place count : Lengths) (file : List ℕ) (t : Tables) (p 
         ranks = (lies 7, fits 7);
       })
 
-  -- and what the fills leave
+  -- and what the reads leave
   pub all-filled : (u : Tables)
       → u .marks ≡ overwritten (blockOf 1 (count .marks)) file (place .marks) (t .marks)
       → u .actionStarts ≡ overwritten (blockOf 4 (count .«action_starts»)) file (place .«action_starts») (t .actionStarts)

@@ -7,8 +7,7 @@ pub use layout::length_of;
 ghost use mathlib.Core.Path.{_≡_};
 ghost use Rattle.certfile.specs.File.{outcomeOf};
 ghost use Rattle.certfile.specs.Layout.{listed};
-ghost use Rattle.certfile.specs.Tables.{tables, lent, ReadInto};
-ghost use Rattle.certfile.specs.declared.Outcome.the-variants.{Read};
+ghost use Rattle.certfile.specs.Tables.{tables, ReadInto};
 use model::Lengths;
 
 // What a file says before its tables.
@@ -63,51 +62,6 @@ impl FileRefusal {
     pub const LENGTH: u32 = 34;
 }
 
-// The tables of a file that was judged, each from its place on.
-fn fill(
-    file: &[u8],
-    h: Header,
-    marks: &mut [u8],
-    action_starts: &mut [u32],
-    branch_starts: &mut [u32],
-    destinations: &mut [u32],
-    weights: &mut [u32],
-    costs: &mut [u32],
-    claims: &mut [u64],
-    ranks: &mut [u32],
-)
-    requires { let t = tables (now marks) (now «action_starts») (now «branch_starts») (now destinations)
-        (now weights) (now costs) (now claims) (now ranks) in
-        ⌜ outcomeOf (lent t) (now file) ≡ Read h ⌝ }
-    ensures { λ _.
-        let before = tables (now (marks .entry)) (now («action_starts» .entry)) (now («branch_starts» .entry))
-        (now (destinations .entry)) (now (weights .entry)) (now (costs .entry)) (now (claims .entry)) (now (ranks .entry)) in
-        let after = tables (now (marks .exit)) (now («action_starts» .exit)) (now («branch_starts» .exit))
-        (now (destinations .exit)) (now (weights .exit)) (now (costs .exit)) (now (claims .exit)) (now (ranks .exit)) in
-        ⌜ ReadInto (Read h) (now (file .entry)) before after ⌝ }
-{
-    let count = layout::counts_of(h);
-    let place = layout::places_of(h);
-    reader::read8(file, place.marks, marks, count.marks);
-    reader::read32(
-        file,
-        place.action_starts,
-        action_starts,
-        count.action_starts,
-    );
-    reader::read32(
-        file,
-        place.branch_starts,
-        branch_starts,
-        count.branch_starts,
-    );
-    reader::read32(file, place.destinations, destinations, count.destinations);
-    reader::read32(file, place.weights, weights, count.weights);
-    reader::read32(file, place.costs, costs, count.costs);
-    reader::read64(file, place.claims, claims, count.claims);
-    reader::read32(file, place.ranks, ranks, count.ranks);
-}
-
 // What reading a file into tables of these lengths would answer.
 pub fn preview(file: &[u8], room: Lengths) -> Outcome
     ensures { λ r. ⌜ r ≡ outcomeOf (listed room) (now (file .entry)) ⌝ }
@@ -149,17 +103,25 @@ pub fn read(
     let Outcome::Read(h) = outcome else {
         return outcome;
     };
-    fill(
+    let count = layout::counts_of(h);
+    let place = layout::places_of(h);
+    reader::read8(file, place.marks, marks, count.marks);
+    reader::read32(
         file,
-        h,
-        marks,
+        place.action_starts,
         action_starts,
-        branch_starts,
-        destinations,
-        weights,
-        costs,
-        claims,
-        ranks,
+        count.action_starts,
     );
+    reader::read32(
+        file,
+        place.branch_starts,
+        branch_starts,
+        count.branch_starts,
+    );
+    reader::read32(file, place.destinations, destinations, count.destinations);
+    reader::read32(file, place.weights, weights, count.weights);
+    reader::read32(file, place.costs, costs, count.costs);
+    reader::read64(file, place.claims, claims, count.claims);
+    reader::read32(file, place.ranks, ranks, count.ranks);
     Outcome::Read(h)
 }

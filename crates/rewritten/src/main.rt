@@ -3,51 +3,14 @@
 ghost use mathlib.Core.Path.{_≡_};
 ghost use Prim.Native.Nat.{ℕ, _+_, _≤_, _<_, _^_};
 ghost use lib.ListN.{length};
-ghost use Rattle.certfile.specs.Tables.{tables, lent, Roomy};
 ghost use Rattle.writer.specs.declared.Written.the-variants.{Length};
 use certfile::FileRefusal;
-use certfile::Header;
 use certfile::Outcome;
 use libc::STDOUT_FILENO;
 use program::Room;
 use report::Longest;
 use stream::Next;
 use writer::Written;
-
-// Writes the first entries of tables that hold a file, as its header counts them.
-fn write(
-    h: Header,
-    marks: &[u8],
-    action_starts: &[u32],
-    branch_starts: &[u32],
-    destinations: &[u32],
-    weights: &[u32],
-    costs: &[u32],
-    claims: &[u64],
-    ranks: &[u32],
-    buffer: &mut [u8],
-) -> Written
-    requires { let t = tables (now marks) (now «action_starts») (now «branch_starts») (now destinations)
-        (now weights) (now costs) (now claims) (now ranks) in
-        ⌜ Roomy h (lent t) ⌝ }
-    ensures { λ r. ⌜ ((n : ℕ) → r ≡ Length n → n ≤ length (now (buffer .exit))) ⌝ }
-{
-    let count = certfile::counts_of(h);
-    writer::write(
-        h.kind,
-        h.d,
-        h.c,
-        &marks[..count.marks],
-        &action_starts[..count.action_starts],
-        &branch_starts[..count.branch_starts],
-        &destinations[..count.destinations],
-        &weights[..count.weights],
-        &costs[..count.costs],
-        &claims[..count.claims],
-        &ranks[..count.ranks],
-        buffer,
-    )
-}
 
 // Each of these puts a line at the beginning of the text, and answers its length: a word and a number.
 fn counted(word: &[u8], n: u32, text: &mut [u8]) -> usize
@@ -83,55 +46,7 @@ fn told(answer: Written, file: &[u8], buffer: &[u8], text: &mut [u8]) -> usize
     }
 }
 
-// Reads a file into lent tables and writes it into a lent buffer.
-fn within(
-    file: &[u8],
-    marks: &mut [u8],
-    action_starts: &mut [u32],
-    branch_starts: &mut [u32],
-    destinations: &mut [u32],
-    weights: &mut [u32],
-    costs: &mut [u32],
-    claims: &mut [u64],
-    ranks: &mut [u32],
-    buffer: &mut [u8],
-    text: &mut [u8],
-) -> usize
-    requires { ⌜ (length (now buffer) < 2 ^ 32) × (64 ≤ length (now text)) ⌝ }
-    ensures { λ r. ⌜ r ≤ length (now (text .exit)) ⌝ }
-{
-    let outcome = certfile::read(
-        file,
-        marks,
-        action_starts,
-        branch_starts,
-        destinations,
-        weights,
-        costs,
-        claims,
-        ranks,
-    );
-    match outcome {
-        Outcome::Read(h) => {
-            let answer = write(
-                h,
-                marks,
-                action_starts,
-                branch_starts,
-                destinations,
-                weights,
-                costs,
-                claims,
-                ranks,
-                buffer,
-            );
-            told(answer, file, buffer, text)
-        }
-        Outcome::Refused { number, place } => program::refused(number, place, text),
-    }
-}
-
-// A file that is read and written in the check program's room.
+// Reads a file into the check program's room, and writes what it holds there, each table cut as the header counts it.
 fn rewritten(file: &[u8], text: &mut [u8]) -> usize
     requires { ⌜ 64 ≤ length (now text) ⌝ }
     ensures { λ r. ⌜ r ≤ length (now (text .exit)) ⌝ }
@@ -148,7 +63,7 @@ fn rewritten(file: &[u8], text: &mut [u8]) -> usize
     let mut claims = [0u64; Room::STATES];
     let mut ranks = [0u32; Room::STATES];
     let mut buffer = [0u8; Room::BYTES];
-    within(
+    let outcome = certfile::read(
         file,
         &mut marks,
         &mut action_starts,
@@ -158,9 +73,28 @@ fn rewritten(file: &[u8], text: &mut [u8]) -> usize
         &mut costs,
         &mut claims,
         &mut ranks,
-        &mut buffer,
-        text,
-    )
+    );
+    match outcome {
+        Outcome::Read(h) => {
+            let count = certfile::counts_of(h);
+            let answer = writer::write(
+                h.kind,
+                h.d,
+                h.c,
+                &marks[..count.marks],
+                &action_starts[..count.action_starts],
+                &branch_starts[..count.branch_starts],
+                &destinations[..count.destinations],
+                &weights[..count.weights],
+                &costs[..count.costs],
+                &claims[..count.claims],
+                &ranks[..count.ranks],
+                &mut buffer,
+            );
+            told(answer, file, &buffer, text)
+        }
+        Outcome::Refused { number, place } => program::refused(number, place, text),
+    }
 }
 
 // Reads one file and prints what comes of it: was there one?

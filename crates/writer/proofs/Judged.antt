@@ -11,7 +11,7 @@ use Rattle.walk.proofs.Bools.{holds, is-true, and-right}
 use Rattle.model.specs.declared.answers.Verdict.{Verdict}
 use Rattle.model.specs.declared.answers.Verdict.the-variants.{Accepted, Refused as Refuses, Violated}
 use Rattle.model.specs.Kinds.{isKind, kindOf}
-use Rattle.model.specs.Tables.{Model, Claim, modelOf, claimOf, states}
+use Rattle.model.specs.Tables.{Model, Claim, states}
 use Rattle.model.specs.Answers.{pass, then, tried, require}
 use Rattle.model.specs.Refusals.{choiceCount, kindTest, tests}
 use Rattle.model.specs.Checked.{accepts, refusalOf, asideOf}
@@ -25,10 +25,10 @@ use Rattle.certfile.specs.File.{blocks}
 use Rattle.writer.specs.declared.Written.{Written}
 use Rattle.writer.specs.declared.Written.the-variants.{Length, Refused}
 use Rattle.writer.specs.File.{headerFor, sections, fileOf, bufferTest, writeTests, answered, writtenOf, overlaid, bufferOf, WrittenInto}
-use Rattle.writer.specs.Room.{Room}
+use Rattle.writer.specs.Room.{HeadRoom}
 use Rattle.writer.proofs.Measured.{file-length}
 use Rattle.writer.proofs.Fits.{size-fits}
-use Rattle.writer.proofs.Laid.{header-bytes, whole-length}
+use Rattle.writer.proofs.Laid.{header-bytes, end8, whole-length}
 
 module _ (kind : ℕ) (t : Model) (u : Claim) where
   pub aside-is : (chosen : ℕ) → chosen ≡ choiceCount kind (states t) → refusalOf kind t u chosen ≡ asideOf kind t u
@@ -38,13 +38,6 @@ module _ (kind : ℕ) (t : Model) (u : Claim) where
   file-is : fileOf kind t u ≡ written (sections (headerFor kind t u) t u)
   unfolding fileOf
   file-is = refl
-
-  -- the same tables with the scales of a header
-  abbrev modelled : Header → Model
-  modelled h = modelOf (h .d) (t .marks) (t .actionStarts) (t .branchStarts) (t .destinations) (t .weights)
-
-  abbrev claimed : Header → Claim
-  claimed h = claimOf (h .c) (u .costs) (u .claims) (u .ranks)
 
   -- tables that 1 to 14 do not refuse
   module _ (p : T (accepts (asideOf kind t u))) where
@@ -77,21 +70,20 @@ module _ (kind : ℕ) (t : Model) (u : Claim) where
         let s = well-formed .sized in
         (omega (arith, s .n-most), (omega (arith, s .table3-least), (omega (arith, s .table3-most), omega (arith, s .table4))))
 
-    fits : (bytes : ℕ) (file : List ℕ) → bytes ≡ size (blocks (headerFor kind t u)) → bytes ≤ length file → Room (headerFor kind t u) bytes t u file
-    fits bytes file e l =
-        record {
-          head = record {
-            kind = few .0;
-            counted = e;
-            most = omega (arith, few .1);
-            room = omega (arith, header-bytes, ap length file-is, file-size, whole-length (headerFor kind t u) t u (few .0));
-          };
-          room = omega (arith, file-size, ap length file-is);
-        }
+    -- a buffer that is not shorter than the file has room for its header and its tables
+    module _ (file : List ℕ) (l : length (fileOf kind t u) ≤ length file) where
+      pub whole-room : end8 t u ≤ length file
+      whole-room = omega (arith, ap length file-is, whole-length (headerFor kind t u) t u (few .0))
 
-    pub room : (h : Header) → h ≡ headerFor kind t u → (bytes : ℕ) (file : List ℕ) → bytes ≡ length (fileOf kind t u) → bytes ≤ length file
-        → Room h bytes (modelled h) (claimed h) file
-    room h q bytes file e l = rw q (fits bytes file (e ∙ file-size) l)
+      pub head-room : (h : Header) → h ≡ headerFor kind t u → (bytes : ℕ) → bytes ≡ length (fileOf kind t u) → HeadRoom h bytes file
+      head-room h q bytes e =
+          rw q
+          (record {
+            kind = few .0;
+            counted = e ∙ file-size;
+            most = omega (arith, few .1, file-size);
+            room = omega (arith, header-bytes, whole-room);
+          })
 
   -- the answer: the first test that does not pass, or the length
   written-is : (buffer : ℕ)
@@ -162,13 +154,13 @@ module _ (kind : ℕ) (t : Model) (u : Claim) where
   left before r e number place q = record { answer = e; buffer = sym (ap (λ (x : Written). bufferOf x (fileOf kind t u) before) q) }
 
   pub put-in : (before : List ℕ) (bytes : ℕ) → Length bytes ≡ writtenOf kind t u (length before) → (after : List ℕ)
-      → (h : Header) → h ≡ headerFor kind t u → after ≡ overlaid (written (sections h (modelled h) (claimed h))) before
+      → (h : Header) → h ≡ headerFor kind t u → after ≡ overlaid (written (sections h t u)) before
       → WrittenInto (Length bytes) kind t u before after
   unfolding bufferOf
   put-in before bytes e after h p q =
       record {
         answer = e;
         buffer = q
-            ∙ ap (λ (x : Header). overlaid (written (sections x (modelled x) (claimed x))) before) p
+            ∙ ap (λ (x : Header). overlaid (written (sections x t u)) before) p
             ∙ ap (λ (file : List ℕ). overlaid file before) (sym file-is);
       }

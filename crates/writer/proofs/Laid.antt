@@ -125,7 +125,7 @@ module _ (h : Header) (t : Model) (u : Claim) where
   pub whole-length : h .kind < 256 → length (written (sections h t u)) ≡ end8 t u
   whole-length l = ap length parts ∙ simp (length-append, spelled-length) (omega (arith, head-length h l))
 
-  pub laid : h .kind < 256 → ((i : ℕ) → getD (t .marks) i 0 < 256) → (file : List ℕ) → length (written (sections h t u)) ≤ length file
+  pub laid : h .kind < 256 → ((i : ℕ) → getD (t .marks) i 0 < 256) → (file : List ℕ) → end8 t u ≤ length file
       → {t₁ t₂ t₃ t₄ t₅ t₆ t₇ t₈ t₉ : List ℕ} {a₁ a₂ a₃ a₄ a₅ a₆ a₇ a₈ a₉ : ℕ}
       → Put file t₁ 0 a₁ (headBytes h)
       → Put t₁ t₂ a₁ a₂ (t .marks)
@@ -141,5 +141,5 @@ module _ (h : Header) (t : Model) (u : Claim) where
   laid l m file room p₁ p₂ p₃ p₄ p₅ p₆ p₇ p₈ p₉ =
       let all = put-same (put-then p₁ (put-then p₂ (put-then p₃ (put-then p₄ (put-then p₅ (put-then p₆ (put-then p₇ (put-then p₈ p₉))))))))
       (sym (parts ∙ rw (bytes-spelled (t .marks) m, append-nil (spelled 4 (u .ranks))))) in
-      let e = put-whole all (omega (arith, all .next)) in
+      let e = put-whole all (omega (arith, all .next, whole-length l)) in
       e .1 ∙ ap (λ (n : ℕ). written (sections h t u) ++ drop n file) (e .0)

@@ -5,8 +5,8 @@ ghost use Rattle.walk.specs.Put.{Put};
 ghost use Rattle.model.specs.Tables.{modelOf, claimOf};
 ghost use Rattle.wire.specs.Sections.{sectionsOf, written};
 ghost use Rattle.certfile.specs.File.{headerBlocks};
-ghost use Rattle.writer.specs.File.{header, heads, sections, answered, writtenOf, overlaid, WrittenInto};
-ghost use Rattle.writer.specs.Room.{HeadRoom, Room};
+ghost use Rattle.writer.specs.File.{header, heads, answered, writtenOf, WrittenInto};
+ghost use Rattle.writer.specs.Room.{HeadRoom};
 use certfile::Header;
 use model::Verdict;
 use wire::Width;
@@ -50,40 +50,6 @@ fn head(file: &mut [u8], h: Header, bytes: usize) -> usize
     let rest = wire::put8(file, kind, h.kind as u8);
     let numbers = [h.d, h.c, h.n, h.m, h.b];
     wire::spell32(file, rest, &numbers)
-}
-
-// The header and the tables, one after the other.
-fn put(
-    h: Header,
-    bytes: usize,
-    marks: &[u8],
-    action_starts: &[u32],
-    branch_starts: &[u32],
-    destinations: &[u32],
-    weights: &[u32],
-    costs: &[u32],
-    claims: &[u64],
-    ranks: &[u32],
-    file: &mut [u8],
-)
-    requires { let t = modelOf (h .d) (now marks) (now «action_starts») (now «branch_starts») (now destinations) (now weights) in
-        let u = claimOf (h .c) (now costs) (now claims) (now ranks) in
-        ⌜ Room h bytes t u (now file) ⌝ }
-    ensures { λ _.
-        let t = modelOf (h .d) (now (marks .entry)) (now («action_starts» .entry)) (now («branch_starts» .entry))
-        (now (destinations .entry)) (now (weights .entry)) in
-        let u = claimOf (h .c) (now (costs .entry)) (now (claims .entry)) (now (ranks .entry)) in
-        ⌜ now (file .exit) ≡ overlaid (written (sections h t u)) (now (file .entry)) ⌝ }
-{
-    let at = head(file, h, bytes);
-    let at = wire::copy8(file, at, marks);
-    let at = wire::spell32(file, at, action_starts);
-    let at = wire::spell32(file, at, branch_starts);
-    let at = wire::spell32(file, at, destinations);
-    let at = wire::spell32(file, at, weights);
-    let at = wire::spell32(file, at, costs);
-    let at = wire::spell64(file, at, claims);
-    wire::spell32(file, at, ranks);
 }
 
 // The answer that a verdict gives.
@@ -199,25 +165,22 @@ pub fn write(
     let Written::Length { bytes } = written else {
         return written;
     };
-    put(
-        header(
-            kind,
-            d,
-            c,
-            marks.len(),
-            branch_starts.len(),
-            destinations.len(),
-        ),
-        bytes,
-        marks,
-        action_starts,
-        branch_starts,
-        destinations,
-        weights,
-        costs,
-        claims,
-        ranks,
-        buffer,
+    let h = header(
+        kind,
+        d,
+        c,
+        marks.len(),
+        branch_starts.len(),
+        destinations.len(),
     );
+    let at = head(buffer, h, bytes);
+    let at = wire::copy8(buffer, at, marks);
+    let at = wire::spell32(buffer, at, action_starts);
+    let at = wire::spell32(buffer, at, branch_starts);
+    let at = wire::spell32(buffer, at, destinations);
+    let at = wire::spell32(buffer, at, weights);
+    let at = wire::spell32(buffer, at, costs);
+    let at = wire::spell64(buffer, at, claims);
+    wire::spell32(buffer, at, ranks);
     Written::Length { bytes }
 }
