@@ -1,31 +1,41 @@
 -- A file that was read, and what is printed for it. Assumes nothing.
 use mathlib.Core.Path.{_≡_, refl, sym, ap, subst, _∙_}
-use mathlib.Core.Bool.{Bool, true, false, cond}
-use mathlib.Core.List.{List}
-use lib.Dec.{ltb}
+use mathlib.Core.Bool.{false}
+use mathlib.Core.List.{List, [], _++_}
 use Prim.Native.Nat.{ℕ, _≤_, _<_}
 use native.Mathlib.Omega.{arith}
-use lib.ListN.{length, getD, take, length-append}
+use lib.ListN.{length, take, drop, length-append}
 use borrow.Author.Tests.{lt-ltb, le-ltb}
+use Rattle.model.specs.declared.answers.Answer.{Answer}
 use Rattle.model.specs.declared.answers.Verdict.{Verdict}
 use Rattle.model.specs.declared.answers.Verdict.the-variants.{Refused as Refuses}
 use Rattle.model.specs.Answers.{number, then, require}
-use Rattle.model.specs.Checked.{refusalOf}
+use Rattle.model.specs.Checked.{refusalOf, choicesOf}
+use Rattle.model.specs.declared.limits.Lengths.{Lengths}
 use Rattle.model.specs.Kinds.{kindOf}
+use Rattle.model.specs.Refusals.{choiceCount}
 use Rattle.model.specs.Tables.{Model, Claim}
 use Rattle.soundness.specs.Demand3.{Holds}
-use Rattle.wire.specs.Blocks.{block}
+use Rattle.checker.specs.Promise.{Checked}
 use Rattle.certfile.specs.declared.Header.{Header}
 use Rattle.certfile.specs.declared.Outcome.{Outcome}
 use Rattle.certfile.specs.declared.Outcome.the-variants.{Read, Refused}
-use Rattle.certfile.specs.File.{announced, outcomeOf, tableOf}
+use Rattle.certfile.specs.File.{tableOf}
 use Rattle.certfile.specs.Tables.{Tables, tables, lent, ReadInto}
 use Rattle.certfile.specs.Contents.{modelIn, claimIn, modelCut, claimCut}
-use Rattle.certfile.proofs.Passed.{read-roomy}
+use Rattle.certfile.specs.Layout.{countsOf}
 use Rattle.certfile.proofs.Contents.{model-read, claim-read}
+use Rattle.certfile.proofs.Cut.{modelTaken, claimTaken, model-cut, claim-cut}
+use Rattle.report.specs.Text.{textOf}
 use Rattle.program.specs.declared.Told.{Told}
-use Rattle.program.specs.Printed.{loadedOf, refusalIn, verdictIn, readText, refusedText, choicesIn, chosenIn, filledBy}
-use Rattle.program.specs.Shows.{Shows, Long, Enough, LoadedInto, Judged, Unprinted, Answered}
+use Rattle.program.specs.Printed.{loadedOf, refusalIn, verdictIn, readText, refusedText, checkedText, choicesIn, chosenIn, filledBy}
+use Rattle.program.specs.Shows.{Shows, Unprinted, Answered}
+use Rattle.program.proofs.Cut.{chosen-counted}
+
+-- a file was read into lent tables, if it is no longer than the most that is taken
+pub record LoadedInto (most : ℕ) (r : Outcome) (file : List ℕ) (before after : Tables) : Type 0 where
+  pub answer : r ≡ loadedOf most (lent before) file
+  pub tables : after ≡ filledBy r file before
 
 -- over-long input is refused before all else, and any other is read
 pub too-long : (most : ℕ) (file : List ℕ) (t : Tables) → most < length file → LoadedInto most (Refused 33 0) file t t
@@ -47,30 +57,7 @@ module _ (most : ℕ) (o : Outcome) (file : List ℕ) (t u : Tables) (w : Loaded
   filled : u ≡ filledBy loaded file t
   filled = w .tables ∙ ap (λ (x : Outcome). filledBy x file t) (w .answer)
 
-  module _ (h : Header) (e : o ≡ Read h) where
-    -- a file that is read was short enough
-    was-read : outcomeOf (lent t) file ≡ Read h
-    unfolding loadedOf
-    was-read = by (ltb most (length file)) (sym (w .answer) ∙ e)
-      where
-        by : (b : Bool) → cond b (Refused 33 0) (outcomeOf (lent t) file) ≡ Read h → outcomeOf (lent t) file ≡ Read h
-        by true p = let z : _≡_ {A = ℕ} 0 1 = cc in absurd (omega arith)
-        by false p = p
-
-    pub read-into : ReadInto o file t u
-    read-into =
-        record {
-          answer = e ∙ sym was-read;
-          marks = ap (λ (x : Tables). x .marks) (w .tables);
-          actionStarts = ap (λ (x : Tables). x .actionStarts) (w .tables);
-          branchStarts = ap (λ (x : Tables). x .branchStarts) (w .tables);
-          destinations = ap (λ (x : Tables). x .destinations) (w .tables);
-          weights = ap (λ (x : Tables). x .weights) (w .tables);
-          costs = ap (λ (x : Tables). x .costs) (w .tables);
-          claims = ap (λ (x : Tables). x .claims) (w .tables);
-          ranks = ap (λ (x : Tables). x .ranks) (w .tables);
-        }
-
+  module _ (read : ReadInto o file t u) (h : Header) (e : o ≡ Read h) where
     loaded-read : Read h ≡ loaded
     loaded-read = sym e ∙ w .answer
 
@@ -78,8 +65,8 @@ module _ (most : ℕ) (o : Outcome) (file : List ℕ) (t u : Tables) (w : Loaded
     refusal-is : refusalOf (h .kind) (modelCut h u) (claimCut h u) (chosenIn h) ≡ refusalIn loaded file
     unfolding refusalIn
     refusal-is =
-        ap (λ (x : Model). refusalOf (h .kind) x (claimCut h u) (chosenIn h)) (model-read o file t u read-into h e)
-        ∙ ap (λ (x : Claim). refusalOf (h .kind) (modelIn h file) x (chosenIn h)) (claim-read o file t u read-into h e)
+        ap (λ (x : Model). refusalOf (h .kind) x (claimCut h u) (chosenIn h)) (model-read o file t u read h e)
+        ∙ ap (λ (x : Claim). refusalOf (h .kind) (modelIn h file) x (chosenIn h)) (claim-read o file t u read h e)
         ∙ ap (λ (x : Outcome). refusalIn x file) loaded-read
 
     pub number-read : (v v′ : Verdict) (r : ℕ) → v ≡ refusalOf (h .kind) (modelCut h u) (claimCut h u) (chosenIn h) → v′ ≡ then v (require false 5 0)
@@ -88,41 +75,41 @@ module _ (most : ℕ) (o : Outcome) (file : List ℕ) (t u : Tables) (w : Loaded
     unfolding require
     number-read v v′ r p q z = record { number = z ∙ ap number q ∙ ap (λ (x : Verdict). number (then x (Refuses 5 0))) (p ∙ refusal-is); tables = filled }
 
-    module _ (list text : List ℕ) where
-      -- what checking asks of the tables, the choice list and the text
-      pub enough : lent u ≡ lent t → Long (length (t .marks)) list text → Enough h (lent u) list text
-      unfolding block announced
-      enough kept long =
-          let at = read-roomy o file t u read-into h e kept in
-          let fits : h .n ≤ length (t .marks) = omega (arith, at 0, ap (λ (l : List ℕ). getD l 0 0) kept) in
-          record {
-            tables = at;
-            long = record { choices = omega (arith, long .choices); printed = omega (arith, long .printed) };
-          }
+    -- the check has the first entries of the lent list, and its verdict was printed
+    module _ (list first text text′ : List ℕ) (a : Answer) (r : Told) where
+      abbrev Promised : Outcome → Model → Claim → ℕ → Type 0
+      Promised x m c k =
+          Checked (h .kind) m c (take k list) a first
+          → take k (first ++ drop k list) ≡ first
+          → r .number ≡ number (a .verdict)
+          → Shows (textOf (a .verdict) (take k (first ++ drop k list))) (r .bytes) text text′
+          → Answered x file t list text r u (first ++ drop k list) text′
 
-      abbrev Promised : Outcome → Model → Claim → Told → List ℕ → List ℕ → Type 0
-      Promised x m c r list′ text′ = Judged (h .kind) m c (chosenIn h) list text r list′ text′ → Answered x file t list text r u list′ text′
-
-      whole : (r : Told) (list′ text′ : List ℕ) → Promised (Read h) (modelIn h file) (claimIn h file) r list′ text′
-      unfolding verdictIn readText choicesIn
-      whole r list′ text′ p =
+      whole : Promised (Read h) (modelIn h file) (claimIn h file) (chosenIn h)
+      unfolding verdictIn readText checkedText choicesIn
+      whole v p n s =
+          let shown = choicesOf (h .kind) (modelIn h file) (claimIn h file) (take (chosenIn h) list) in
+          let told = ap (λ (x : Answer). textOf (x .verdict) shown) (v .answer) in
           record {
-            number = p .number;
-            shows = p .shows;
+            number = n ∙ ap (λ (x : Answer). number (x .verdict)) (v .answer);
+            shows = subst (λ (l : List ℕ). Shows l (r .bytes) text text′) (ap (textOf (a .verdict)) (p ∙ v .choices) ∙ told) s;
             tables = w .tables ∙ ap (λ (x : Outcome). filledBy x file t) e;
-            choices = p .choices;
-            sound = λ g R same e. subst (λ (x : Header). Holds (kindOf (x .kind)) (modelIn x file) (claimIn x file) R (take (chosenIn x) list′))
-                (headers same) (p .sound R e);
+            choices = ap (λ (l : List ℕ). l ++ drop (chosenIn h) list) (v .choices);
+            sound = λ g R same q.
+                subst (λ (x : Header). Holds (kindOf (x .kind)) (modelIn x file) (claimIn x file) R (take (chosenIn x) (first ++ drop (chosenIn h) list)))
+                (headers same) (rw p (v .sound R (ap (λ (x : Answer). x .verdict) (v .answer) ∙ q)));
           }
         where
           headers : {x y : Header} → Read x ≡ Read y → x ≡ y
           headers s = cc
 
-      pub printed-read : (r : Told) (list′ text′ : List ℕ) → Promised loaded (modelCut h u) (claimCut h u) r list′ text′
-      printed-read r list′ text′ =
-          subst (λ (m : Model). Promised loaded m (claimCut h u) r list′ text′) (sym (model-read o file t u read-into h e))
-          (subst (λ (c : Claim). Promised loaded (modelIn h file) c r list′ text′) (sym (claim-read o file t u read-into h e))
-          (subst (λ (x : Outcome). Promised x (modelIn h file) (claimIn h file) r list′ text′) loaded-read (whole r list′ text′)))
+      pub printed-read : (count : Lengths) (chosen : ℕ) → count ≡ countsOf h → chosen ≡ choiceCount (h .kind) (count .marks)
+          → Promised loaded (modelTaken h count u) (claimTaken h count u) chosen
+      printed-read count chosen q f =
+          subst (λ (m : Model). Promised loaded m (claimTaken h count u) chosen) (sym (model-cut h count u q ∙ model-read o file t u read h e))
+          (subst (λ (c : Claim). Promised loaded (modelIn h file) c chosen) (sym (claim-cut h count u q ∙ claim-read o file t u read h e))
+          (subst (λ (k : ℕ). Promised loaded (modelIn h file) (claimIn h file) k) (sym (chosen-counted h count chosen q f))
+          (subst (λ (x : Outcome). Promised x (modelIn h file) (claimIn h file) (chosenIn h)) loaded-read whole)))
 
   module _ (k p : ℕ) (e : o ≡ Refused k p) where
     loaded-refused : Refused k p ≡ loaded
@@ -132,9 +119,9 @@ module _ (most : ℕ) (o : Outcome) (file : List ℕ) (t u : Tables) (w : Loaded
     unfolding refusalIn then
     number-refused = record { number = ap (λ (x : Outcome). number (then (refusalIn x file) (Refuses 5 0))) loaded-refused; tables = filled }
 
-    pub printed-refused : (list text : List ℕ) (r : Told) (text′ : List ℕ) → r .number ≡ k → Shows (refusedText k p) (r .bytes) text text′
+    pub printed-refused : (list text : List ℕ) (r : Told) (text′ : List ℕ) → r .number ≡ k → Shows (textOf (Refuses k p) []) (r .bytes) text text′
         → Answered loaded file t list text r u list text′
-    unfolding verdictIn readText choicesIn
+    unfolding verdictIn readText refusedText choicesIn
     printed-refused list text r text′ n s = subst (λ (x : Outcome). Answered x file t list text r u list text′) loaded-refused whole
       where
         whole : Answered (Refused k p) file t list text r u list text′

@@ -1,4 +1,4 @@
--- Bytes that stand at the beginning of a text, the room that checking takes, and what reading, checking and printing promise.
+-- Bytes that stand at the beginning of a text, the room that checking takes, and what checking and printing promise.
 use Prim.Native.Nat.{ℕ, _+_, _*_, _≤_}
 use mathlib.Core.Path.{_≡_}
 use mathlib.Core.List.{List, _++_}
@@ -6,16 +6,14 @@ use lib.ListN.{length, take, drop}
 use Rattle.model.specs.declared.answers.Verdict.the-variants.{Accepted, Refused}
 use Rattle.model.specs.Answers.{number, then}
 use Rattle.model.specs.Kinds.{kindOf}
-use Rattle.model.specs.Tables.{Model, Claim}
-use Rattle.model.specs.Checked.{answerOf, choicesOf}
 use Rattle.soundness.specs.Demand3.{Holds}
 use Rattle.certfile.specs.declared.Header.{Header}
 use Rattle.certfile.specs.declared.Outcome.{Outcome}
 use Rattle.certfile.specs.declared.Outcome.the-variants.{Read}
-use Rattle.certfile.specs.Tables.{Tables, lent, Roomy}
+use Rattle.certfile.specs.Tables.{Tables}
 use Rattle.certfile.specs.Contents.{modelIn, claimIn}
 use Rattle.program.specs.declared.Told.{Told}
-use Rattle.program.specs.Printed.{loadedOf, refusalIn, verdictIn, checkedText, readText, choicesIn, chosenIn, filledBy}
+use Rattle.program.specs.Printed.{refusalIn, verdictIn, readText, choicesIn, chosenIn, filledBy}
 
 pub record Shows (bytes : List ℕ) (r : ℕ) (before after : List ℕ) : Type 0 where
   pub length : r ≡ length bytes
@@ -25,31 +23,6 @@ pub record Shows (bytes : List ℕ) (r : ℕ) (before after : List ℕ) : Type 0
 pub record Long (states : ℕ) (list text : List ℕ) : Type 0 where
   pub choices : states ≤ length list
   pub printed : 64 + 32 * states ≤ length text
-
--- all the room that checking takes
-pub record Enough (h : Header) (lent list text : List ℕ) : Type 0 where
-  pub tables : Roomy h lent
-  pub long : Long (h .n) list text
-
--- a file was read into lent tables, if it is no longer than the most that is taken
-pub record LoadedInto (most : ℕ) (r : Outcome) (file : List ℕ) (before after : Tables) : Type 0 where
-  pub answer : r ≡ loadedOf most (lent before) file
-  pub tables : after ≡ filledBy r file before
-
--- tables were checked with so many of a list's first entries, and the verdict printed
-pub record Judged
-    (kind : ℕ)
-    (t : Model)
-    (u : Claim)
-    (chosen : ℕ)
-    (list text : List ℕ)
-    (r : Told)
-    (list′ text′ : List ℕ)
-    : Type 0 where
-  pub number : r .number ≡ number (answerOf kind t u (take chosen list) .verdict)
-  pub shows : Shows (checkedText kind t u (take chosen list)) (r .bytes) text text′
-  pub choices : list′ ≡ choicesOf kind t u (take chosen list) ++ drop chosen list
-  pub sound : (R : ℕ) → answerOf kind t u (take chosen list) .verdict ≡ Accepted R → Holds (kindOf kind) t u R (take chosen list′)
 
 -- nothing was printed over what reading answered: the number of the refusal, or 5, and the tables
 pub record Unprinted (o : Outcome) (file : List ℕ) (before : Tables) (r : ℕ) (after : Tables) : Type 0 where

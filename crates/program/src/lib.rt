@@ -1,12 +1,14 @@
 // What is printed for a file that is read into lent tables, and what the check program prints.
 mod refusal;
 
-ghost use Prim.Native.Nat.{_≤_};
+ghost use mathlib.Core.Path.{_≡_};
+ghost use Prim.Native.Nat.{_+_, _*_, _≤_};
 ghost use lib.ListN.{length};
-ghost use Rattle.certfile.specs.Contents.{modelCut, claimCut};
+ghost use Rattle.model.specs.Answers.{number};
+ghost use Rattle.report.specs.Text.{textOf};
 ghost use Rattle.certfile.specs.Tables.{tables, lent};
-ghost use Rattle.program.specs.Printed.{loadedOf, chosenIn, refusedText, printedOf};
-ghost use Rattle.program.specs.Shows.{Shows, Long, Enough, LoadedInto, Judged, Unprinted, Answered};
+ghost use Rattle.program.specs.Printed.{mostFile, loadedOf, refusedText, printedOf};
+ghost use Rattle.program.specs.Shows.{Shows, Long, Unprinted, Answered};
 use certfile::FileRefusal;
 use certfile::Header;
 use certfile::Outcome;
@@ -71,86 +73,13 @@ pub fn refused(number: u32, place: u32, text: &mut [u8]) -> usize
     report::print(Verdict::Refused { number, place }, &[], text)
 }
 
-// Reads a file into lent tables, if it is no longer than the most that is taken.
-fn load(
-    most: usize,
-    file: &[u8],
-    marks: &mut [u8],
-    action_starts: &mut [u32],
-    branch_starts: &mut [u32],
-    destinations: &mut [u32],
-    weights: &mut [u32],
-    costs: &mut [u32],
-    claims: &mut [u64],
-    ranks: &mut [u32],
-) -> Outcome
-    ensures { λ r.
-        let before = tables (now (marks .entry)) (now («action_starts» .entry)) (now («branch_starts» .entry))
-        (now (destinations .entry)) (now (weights .entry)) (now (costs .entry)) (now (claims .entry)) (now (ranks .entry)) in
-        let after = tables (now (marks .exit)) (now («action_starts» .exit)) (now («branch_starts» .exit))
-        (now (destinations .exit)) (now (weights .exit)) (now (costs .exit)) (now (claims .exit)) (now (ranks .exit)) in
-        ⌜ LoadedInto most r (now (file .entry)) before after ⌝ }
+// Prints a verdict, and tells its number and the bytes.
+fn tell(verdict: Verdict, choices: &[u32], text: &mut [u8]) -> Told
+    requires { ⌜ 64 + 32 * length (now choices) ≤ length (now text) ⌝ }
+    ensures number { λ r. ⌜ r .number ≡ number verdict ⌝ }
+    ensures shows { λ r. ⌜ Shows (textOf verdict (now (choices .entry))) (r .bytes) (now (text .entry)) (now (text .exit)) ⌝ }
 {
-    if most < file.len() {
-        return Outcome::Refused {
-            number: FileRefusal::COUNTS,
-            place: 0,
-        };
-    }
-    certfile::read(
-        file,
-        marks,
-        action_starts,
-        branch_starts,
-        destinations,
-        weights,
-        costs,
-        claims,
-        ranks,
-    )
-}
-
-// Checks the first entries of tables that hold a file, as its header counts them, and prints the verdict.
-fn judged(
-    h: Header,
-    marks: &[u8],
-    action_starts: &[u32],
-    branch_starts: &[u32],
-    destinations: &[u32],
-    weights: &[u32],
-    costs: &[u32],
-    claims: &[u64],
-    ranks: &[u32],
-    choices: &mut [u32],
-    text: &mut [u8],
-) -> Told
-    requires { let t = tables (now marks) (now «action_starts») (now «branch_starts») (now destinations)
-        (now weights) (now costs) (now claims) (now ranks) in
-        ⌜ Enough h (lent t) (now choices) (now text) ⌝ }
-    ensures { λ r.
-        let t = tables (now (marks .entry)) (now («action_starts» .entry)) (now («branch_starts» .entry))
-        (now (destinations .entry)) (now (weights .entry)) (now (costs .entry)) (now (claims .entry)) (now (ranks .entry)) in
-        ⌜ Judged (h .kind) (modelCut h t) (claimCut h t) (chosenIn h) (now (choices .entry)) (now (text .entry)) r
-        (now (choices .exit)) (now (text .exit)) ⌝ }
-{
-    let count = certfile::counts_of(h);
-    let chosen = model::choice_count(h.kind, count.marks);
-    let answer = checker::check(
-        h.kind,
-        h.d,
-        h.c,
-        &marks[..count.marks],
-        &action_starts[..count.action_starts],
-        &branch_starts[..count.branch_starts],
-        &destinations[..count.destinations],
-        &weights[..count.weights],
-        &costs[..count.costs],
-        &claims[..count.claims],
-        &ranks[..count.ranks],
-        &mut choices[..chosen],
-    );
-    let verdict = answer.verdict;
-    let bytes = report::print(verdict, &choices[..chosen], text);
+    let bytes = report::print(verdict, choices, text);
     Told {
         number: verdict.number(),
         bytes,
@@ -159,7 +88,6 @@ fn judged(
 
 // The number where nothing can be printed: that of the refusal over the file or its tables, else 5.
 pub fn unprinted(
-    most: usize,
     file: &[u8],
     marks: &mut [u8],
     action_starts: &mut [u32],
@@ -175,11 +103,13 @@ pub fn unprinted(
         (now (destinations .entry)) (now (weights .entry)) (now (costs .entry)) (now (claims .entry)) (now (ranks .entry)) in
         let after = tables (now (marks .exit)) (now («action_starts» .exit)) (now («branch_starts» .exit))
         (now (destinations .exit)) (now (weights .exit)) (now (costs .exit)) (now (claims .exit)) (now (ranks .exit)) in
-        let o = loadedOf most (lent before) (now (file .entry)) in
+        let o = loadedOf mostFile (lent before) (now (file .entry)) in
         ⌜ Unprinted o (now (file .entry)) before r after ⌝ }
 {
-    let outcome = load(
-        most,
+    if Whole::BYTES < file.len() {
+        return FileRefusal::COUNTS;
+    }
+    let outcome = certfile::read(
         file,
         marks,
         action_starts,
@@ -233,8 +163,14 @@ pub fn answer_within(
         ⌜ Answered o (now (file .entry)) before (now (choices .entry)) (now (text .entry)) r
         after (now (choices .exit)) (now (text .exit)) ⌝ }
 {
-    let outcome = load(
-        most,
+    if most < file.len() {
+        let over_long = Verdict::Refused {
+            number: FileRefusal::COUNTS,
+            place: 0,
+        };
+        return tell(over_long, &[], text);
+    }
+    let outcome = certfile::read(
         file,
         marks,
         action_starts,
@@ -246,23 +182,27 @@ pub fn answer_within(
         ranks,
     );
     match outcome {
-        Outcome::Read(h) => judged(
-            h,
-            marks,
-            action_starts,
-            branch_starts,
-            destinations,
-            weights,
-            costs,
-            claims,
-            ranks,
-            choices,
-            text,
-        ),
-        Outcome::Refused { number, place } => Told {
-            number,
-            bytes: refused(number, place, text),
-        },
+        Outcome::Read(h) => {
+            let count = certfile::counts_of(h);
+            let chosen = model::choice_count(h.kind, count.marks);
+            let answer = checker::check(
+                h.kind,
+                h.d,
+                h.c,
+                &marks[..count.marks],
+                &action_starts[..count.action_starts],
+                &branch_starts[..count.branch_starts],
+                &destinations[..count.destinations],
+                &weights[..count.weights],
+                &costs[..count.costs],
+                &claims[..count.claims],
+                &ranks[..count.ranks],
+                &mut choices[..chosen],
+            );
+            let verdict = answer.verdict;
+            tell(verdict, &choices[..chosen], text)
+        }
+        Outcome::Refused { number, place } => tell(Verdict::Refused { number, place }, &[], text),
     }
 }
 

@@ -1,9 +1,8 @@
 -- What answering a file says as exported: a number, the printed text, two numbers in a list, the choice list and the tables.
-use Prim.Native.Nat.{ℕ, _+_, _*_}
+use Prim.Native.Nat.{ℕ}
 use mathlib.Core.Path.{_≡_}
-use mathlib.Core.Bool.{Bool, true, cond, _&&_}
+use mathlib.Core.Bool.{Bool, true, cond}
 use mathlib.Core.List.{List, [], _∷_, _++_}
-use lib.Dec.{eqb, leb}
 use lib.ListN.{length, take, drop}
 use Rattle.model.specs.declared.answers.Verdict.the-variants.{Accepted, Refused}
 use Rattle.model.specs.Answers.{number, then}
@@ -19,10 +18,6 @@ use Rattle.program.specs.Printed.{mostFile, loadedOf, refusalIn, verdictIn, rea
 -- what reading answers: no file is longer than the most that any file can have
 abbrev pub loaded : Tables → List ℕ → Outcome
 loaded before file = loadedOf mostFile (lent before) file
-
--- the result list is 2 long, the choice list no shorter than the marks, and the text has room for what may be printed of so many states
-abbrev pub listsRight : ℕ → ℕ → ℕ → ℕ → Bool
-listsRight states choices text result = eqb result 2 && (leb states choices && leb (64 + 32 * states) text)
 
 -- the answer as exported: where a list is not right that is 5, after every refusal over the file and its tables, and text, choice list
 -- and result list are left alone

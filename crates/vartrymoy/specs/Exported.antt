@@ -2,20 +2,16 @@
 use Prim.Native.Nat.{ℕ}
 use mathlib.Core.Path.{_≡_}
 use mathlib.Core.Bool.{cond}
-use mathlib.Core.List.{List, [], _∷_}
+use mathlib.Core.List.{List}
 use lib.Dec.{eqb}
 use lib.ListN.{length}
-use Rattle.model.specs.declared.answers.Answer.{Answer}
 use Rattle.model.specs.declared.answers.Verdict.the-variants.{Accepted, Refused}
-use Rattle.model.specs.Answers.{number, value, action, then}
+use Rattle.model.specs.Answers.{number, then}
 use Rattle.model.specs.Tables.{Model, Claim}
 use Rattle.model.specs.Checked.{refusalOf, answerOf, choicesOf}
 use Rattle.model.specs.Kinds.{kindOf}
 use Rattle.soundness.specs.Demand3.{Holds}
-
--- an answer in four numbers: number; R, place or state; action or none; kind
-abbrev pub numbersOf : Answer → List ℕ
-numbersOf r = number (r .verdict) ∷ value (r .verdict) ∷ action (r .verdict) ∷ r .kind ∷ []
+use Rattle.results.specs.Lists.{numbersOf}
 
 -- the number that comes back: an answer list that is not 4 long is 5, after the numbered refusals
 unfoldable pub numberOf : ℕ → Model → Claim → List ℕ → List ℕ → ℕ

@@ -2,23 +2,12 @@
 use Prim.Native.Nat.{ℕ}
 use mathlib.Core.Path.{_≡_}
 use mathlib.Core.Bool.{cond}
-use mathlib.Core.List.{List, [], _∷_}
+use mathlib.Core.List.{List}
 use lib.Dec.{eqb}
 use lib.ListN.{length}
-use Rattle.certfile.specs.declared.Outcome.{Outcome}
-use Rattle.certfile.specs.declared.Outcome.the-variants.{Read, Refused}
 use Rattle.certfile.specs.File.{outcomeOf}
 use Rattle.certfile.specs.Tables.{Tables, lent, ReadInto}
-
--- the number of a refusal, or the one that stands for a file that is read
-unfoldable pub numberOr : ℕ → Outcome → ℕ
-numberOr read (Read h) = read
-numberOr read (Refused number place) = number
-
--- the header list afterwards: kind, D, C, n, m, b; a refusal leaves it as it was
-unfoldable pub headerAfter : Outcome → List ℕ → List ℕ
-headerAfter (Read h) before = h .kind ∷ h .d ∷ h .c ∷ h .n ∷ h .m ∷ h .b ∷ []
-headerAfter (Refused number place) before = before
+use Rattle.results.specs.Lists.{numberOr, headerAfter}
 
 -- the reader as exported: a header list that is not 6 long is 5, after the reader's refusals, and then nothing is written
 pub record FileReadInto (file header-before : List ℕ) (before : Tables) (r : ℕ) (header-after : List ℕ) (after : Tables) : Type 0 where

@@ -1,75 +1,19 @@
 // The library to link: document 01's check, reader and writer, and a file's whole answer, for C and whatever calls C, in numbers and
 // lists of numbers.
-ghost use mathlib.Core.Path.{_≡_};
-ghost use mathlib.Core.List.{[], _∷_};
 ghost use lib.ListN.{length};
-ghost use Rattle.model.specs.Answers.{number, value, action};
 ghost use Rattle.model.specs.Tables.{modelOf, claimOf};
 ghost use Rattle.certfile.specs.Tables.{tables};
-ghost use Rattle.vartrymoy.specs.Answered.{loaded, listsRight, FileAnsweredInto};
-ghost use Rattle.vartrymoy.specs.Exported.{numbersOf, CheckedInto};
-ghost use Rattle.vartrymoy.specs.Filled.{numberOr, headerAfter, FileReadInto};
-ghost use Rattle.vartrymoy.specs.Written.{writtenOr, pairOf, FileWrittenInto};
-use certfile::Outcome;
-use model::Answer;
+ghost use Rattle.results.specs.Lists.{listsRight};
+ghost use Rattle.vartrymoy.specs.Answered.{loaded, FileAnsweredInto};
+ghost use Rattle.vartrymoy.specs.Exported.{CheckedInto};
+ghost use Rattle.vartrymoy.specs.Filled.{FileReadInto};
+ghost use Rattle.vartrymoy.specs.Written.{FileWrittenInto};
 use model::Lengths;
-use model::Rank;
 use model::Refusal;
-use model::Verdict;
 use program::Whole;
-use writer::Written;
-
-// The length of the list that takes an answer.
-pub struct AnswerList {}
-
-impl AnswerList {
-    pub const COUNT: usize = 4;
-}
-
-// What a verdict has beside its number.
-struct Values {
-    value: u32,
-    action: u32,
-}
-
-fn values_of(v: Verdict) -> Values
-    ensures { λ r. ⌜ (r .value ≡ value v) × (r .action ≡ action v) ⌝ }
-{
-    match v {
-        Verdict::Accepted { rank } => Values {
-            value: rank,
-            action: Rank::NONE,
-        },
-        Verdict::Refused { number: _, place } => Values {
-            value: place,
-            action: Rank::NONE,
-        },
-        Verdict::Violated {
-            number: _,
-            state,
-            action,
-        } => Values {
-            value: state,
-            action,
-        },
-    }
-}
-
-// Writes an answer into a list of four, and answers its number.
-fn put(r: Answer, answer: &mut [u32]) -> u32
-    requires { ⌜ length (now answer) ≡ 4 ⌝ }
-    ensures number { λ x. ⌜ x ≡ number (r .verdict) ⌝ }
-    ensures answer { λ x. ⌜ now (answer .exit) ≡ numbersOf r ⌝ }
-{
-    let verdict = r.verdict;
-    let number = verdict.number();
-    let x = values_of(verdict);
-    answer[0] = number;
-    answer[1] = x.value;
-    answer[2] = x.action;
-    answer[3] = r.kind;
-    number
-}
+use results::AnswerList;
+use results::HeaderList;
+use results::ResultList;
 
 // Judges the claim that the lent tables make, as checker::check does, and answers its number.
 #[no_mangle]
@@ -111,7 +55,7 @@ pub extern "C" fn vartrymoy_check(
         );
         return refusal.require(false, Refusal::LENGTH, 0).number();
     }
-    put(
+    results::put(
         checker::check(
             kind,
             d,
@@ -128,39 +72,6 @@ pub extern "C" fn vartrymoy_check(
         ),
         answer,
     )
-}
-
-// The length of the list that takes what a file says before its tables.
-pub struct HeaderList {}
-
-impl HeaderList {
-    pub const COUNT: usize = 6;
-}
-
-// The number of a refusal, or this one where a file is read.
-fn number_or(o: Outcome, read: u32) -> u32
-    ensures { λ r. ⌜ r ≡ numberOr read o ⌝ }
-{
-    match o {
-        Outcome::Read(_) => read,
-        Outcome::Refused { number, place: _ } => number,
-    }
-}
-
-// Writes what a file says before its tables into a list of six: a refusal leaves it alone.
-fn put_header(o: Outcome, header: &mut [u32])
-    requires { ⌜ length (now header) ≡ 6 ⌝ }
-    ensures { λ _. ⌜ now (header .exit) ≡ headerAfter o (now (header .entry)) ⌝ }
-{
-    let Outcome::Read(h) = o else {
-        return;
-    };
-    header[0] = h.kind;
-    header[1] = h.d;
-    header[2] = h.c;
-    header[3] = h.n;
-    header[4] = h.m;
-    header[5] = h.b;
 }
 
 // Reads a file into the lent tables, as certfile::read does, and answers 0 or the number of the refusal.
@@ -196,7 +107,7 @@ pub extern "C" fn vartrymoy_read(
             ranks: ranks.len(),
             choices: 0,
         };
-        return number_or(certfile::preview(file, room), Refusal::LENGTH);
+        return results::number_or(certfile::preview(file, room), Refusal::LENGTH);
     }
     let outcome = certfile::read(
         file,
@@ -209,45 +120,8 @@ pub extern "C" fn vartrymoy_read(
         claims,
         ranks,
     );
-    put_header(outcome, header);
-    number_or(outcome, 0)
-}
-
-// The length of the list that takes what writing answers.
-pub struct ResultList {}
-
-impl ResultList {
-    pub const COUNT: usize = 2;
-}
-
-// The number of a refusal, or this one where a file is written.
-fn written_or(w: Written, written: u32) -> u32
-    ensures { λ r. ⌜ r ≡ writtenOr written w ⌝ }
-{
-    match w {
-        Written::Length { bytes: _ } => written,
-        Written::Refused { number, place: _ } => number,
-    }
-}
-
-// Writes two numbers into a list of two.
-fn put_two(first: u64, second: u64, result: &mut [u64])
-    requires { ⌜ length (now result) ≡ 2 ⌝ }
-    ensures { λ _. ⌜ now (result .exit) ≡ first ∷ second ∷ [] ⌝ }
-{
-    result[0] = first;
-    result[1] = second;
-}
-
-// Writes what writing answered into a list of two.
-fn put_written(w: Written, result: &mut [u64])
-    requires { ⌜ length (now result) ≡ 2 ⌝ }
-    ensures { λ _. ⌜ now (result .exit) ≡ pairOf w ⌝ }
-{
-    match w {
-        Written::Length { bytes } => put_two(0, bytes as u64, result),
-        Written::Refused { number, place } => put_two(number as u64, place as u64, result),
-    }
+    results::put_header(outcome, header);
+    results::number_or(outcome, 0)
 }
 
 // Writes the file that the lent tables make into a lent buffer, as writer::write does, and answers 0 or the number of the refusal.
@@ -288,7 +162,7 @@ pub extern "C" fn vartrymoy_write(
             ranks,
             buffer.len(),
         );
-        return written_or(would, Refusal::LENGTH);
+        return results::written_or(would, Refusal::LENGTH);
     }
     let written = writer::write(
         kind,
@@ -304,21 +178,8 @@ pub extern "C" fn vartrymoy_write(
         ranks,
         buffer,
     );
-    put_written(written, result);
-    written_or(written, 0)
-}
-
-// Whether the lists that take what is answered have lengths with which it can be written.
-fn lists_right(states: usize, choices: usize, text: usize, result: usize) -> bool
-    ensures { λ r. ⌜ r ≡ listsRight states choices text result ⌝ }
-{
-    if result != ResultList::COUNT {
-        return false;
-    }
-    if choices < states {
-        return false;
-    }
-    report::has_room(states, text)
+    results::put_written(written, result);
+    results::written_or(written, 0)
 }
 
 // Reads a file into the lent tables, checks it, puts what is printed at the beginning of the text, and answers its number.
@@ -348,9 +209,8 @@ pub extern "C" fn vartrymoy_answer(
         before (now (choices .entry)) (now (text .entry)) (now (result .entry)) r
         after (now (choices .exit)) (now (text .exit)) (now (result .exit)) ⌝ }
 {
-    if !lists_right(marks.len(), choices.len(), text.len(), result.len()) {
+    if !results::lists_right(marks.len(), choices.len(), text.len(), result.len()) {
         return program::unprinted(
-            Whole::BYTES,
             file,
             marks,
             action_starts,
@@ -376,6 +236,6 @@ pub extern "C" fn vartrymoy_answer(
         choices,
         text,
     );
-    put_two(told.number as u64, told.bytes as u64, result);
+    results::put_two(told.number as u64, told.bytes as u64, result);
     told.number
 }

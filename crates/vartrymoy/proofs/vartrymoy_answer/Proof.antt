@@ -14,7 +14,8 @@ use Rattle.certfile.proofs.Judged.{both-true}
 use Rattle.program.specs.declared.Told.{Told}
 use Rattle.program.specs.Printed.{readText}
 use Rattle.program.specs.Shows.{Long, Unprinted, Answered}
-use Rattle.vartrymoy.specs.Answered.{listsRight, FileAnsweredInto}
+use Rattle.results.specs.Lists.{listsRight}
+use Rattle.vartrymoy.specs.Answered.{FileAnsweredInto}
 use Rattle.vartrymoy.proofs.vartrymoy_answer.Statement.{statement}
 use Rattle.vartrymoy.proofs.vartrymoy_answer.Tie as tie
 

@@ -12,7 +12,8 @@ use Rattle.model.specs.Answers.{number, then, require}
 use Rattle.model.specs.Tables.{Model, Claim}
 use Rattle.model.specs.Checked.{refusalOf}
 use Rattle.checker.specs.Promise.{Checked}
-use Rattle.vartrymoy.specs.Exported.{numbersOf, numberOf, CheckedInto}
+use Rattle.results.specs.Lists.{numbersOf}
+use Rattle.vartrymoy.specs.Exported.{numberOf, CheckedInto}
 use Rattle.vartrymoy.proofs.vartrymoy_check.Statement.{statement}
 use Rattle.vartrymoy.proofs.vartrymoy_check.Tie as tie
 

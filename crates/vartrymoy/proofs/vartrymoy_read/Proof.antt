@@ -8,7 +8,8 @@ use lib.ListN.{length}
 use Rattle.certfile.specs.declared.Outcome.{Outcome}
 use Rattle.certfile.specs.File.{outcomeOf}
 use Rattle.certfile.specs.Tables.{Tables, lent, ReadInto}
-use Rattle.vartrymoy.specs.Filled.{numberOr, headerAfter, FileReadInto}
+use Rattle.results.specs.Lists.{numberOr, headerAfter}
+use Rattle.vartrymoy.specs.Filled.{FileReadInto}
 use Rattle.vartrymoy.proofs.vartrymoy_read.Statement.{statement}
 use Rattle.vartrymoy.proofs.vartrymoy_read.Tie as tie
 

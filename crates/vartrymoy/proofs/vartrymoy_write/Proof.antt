@@ -8,7 +8,8 @@ use lib.ListN.{length}
 use Rattle.model.specs.Tables.{Model, Claim}
 use Rattle.writer.specs.declared.Written.{Written}
 use Rattle.writer.specs.File.{fileOf, writtenOf, bufferOf, WrittenInto}
-use Rattle.vartrymoy.specs.Written.{writtenOr, pairOf, FileWrittenInto}
+use Rattle.results.specs.Lists.{writtenOr, pairOf}
+use Rattle.vartrymoy.specs.Written.{FileWrittenInto}
 use Rattle.vartrymoy.proofs.vartrymoy_write.Statement.{statement}
 use Rattle.vartrymoy.proofs.vartrymoy_write.Tie as tie
 

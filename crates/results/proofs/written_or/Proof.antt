@@ -1,9 +1,9 @@
--- `vartrymoy::written_or` meets its contract. Assumes nothing.
+-- `results::written_or` meets its contract. Assumes nothing.
 use mathlib.Core.Path.{sym, ap}
 use borrow.Author.Needs.{needs}
-use Rattle.vartrymoy.specs.Written.{writtenOr}
-use Rattle.vartrymoy.proofs.written_or.Statement.{statement}
-use Rattle.vartrymoy.proofs.written_or.Tie as tie
+use Rattle.results.specs.Lists.{writtenOr}
+use Rattle.results.proofs.written_or.Statement.{statement}
+use Rattle.results.proofs.written_or.Tie as tie
 
 returns : tie.Need-returns
 unfolding writtenOr

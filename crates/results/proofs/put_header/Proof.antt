@@ -1,4 +1,4 @@
--- `vartrymoy::put_header` meets its contract: six entries are what the header says. Assumes nothing.
+-- `results::put_header` meets its contract: six entries are what the header says. Assumes nothing.
 use mathlib.Core.Path.{_≡_, refl, sym, ap, _∙_}
 use mathlib.Core.List.{List, [], _∷_}
 use Prim.Native.Nat.{ℕ, _<_}
@@ -8,9 +8,9 @@ use borrow.Author.Needs.{needs}
 use Rattle.certfile.specs.declared.Header.{Header}
 use Rattle.certfile.specs.declared.Outcome.{Outcome}
 use Rattle.certfile.specs.declared.Outcome.the-variants.{Read, Refused}
-use Rattle.vartrymoy.specs.Filled.{headerAfter}
-use Rattle.vartrymoy.proofs.put_header.Statement.{statement}
-use Rattle.vartrymoy.proofs.put_header.Tie as tie
+use Rattle.results.specs.Lists.{headerAfter}
+use Rattle.results.proofs.put_header.Statement.{statement}
+use Rattle.results.proofs.put_header.Tie as tie
 
 six : (xs : List ℕ) (a b c d e f : ℕ) → length xs ≡ 6 → set (set (set (set (set (set xs 0 a) 1 b) 2 c) 3 d) 4 e) 5 f ≡ a ∷ b ∷ c ∷ d ∷ e ∷ f ∷ []
 six [] a b c d e f l = absurd (omega arith)

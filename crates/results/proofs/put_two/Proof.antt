@@ -1,12 +1,12 @@
--- `vartrymoy::put_two` meets its contract: two entries are the two numbers. Assumes nothing.
+-- `results::put_two` meets its contract: two entries are the two numbers. Assumes nothing.
 use mathlib.Core.Path.{_≡_, refl}
 use mathlib.Core.List.{List, [], _∷_}
 use Prim.Native.Nat.{ℕ}
 use native.Mathlib.Omega.{arith}
 use lib.ListN.{length, set}
 use borrow.Author.Needs.{needs}
-use Rattle.vartrymoy.proofs.put_two.Statement.{statement}
-use Rattle.vartrymoy.proofs.put_two.Tie as tie
+use Rattle.results.proofs.put_two.Statement.{statement}
+use Rattle.results.proofs.put_two.Tie as tie
 
 two : (xs : List ℕ) (a b : ℕ) → length xs ≡ 2 → set (set xs 0 a) 1 b ≡ a ∷ b ∷ []
 two [] a b l = absurd (omega arith)

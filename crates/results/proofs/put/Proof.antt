@@ -1,12 +1,12 @@
--- `vartrymoy::put` meets its contract: four entries are the four numbers. Assumes nothing.
+-- `results::put` meets its contract: four entries are the four numbers. Assumes nothing.
 use mathlib.Core.Path.{_≡_, refl}
 use mathlib.Core.List.{List, [], _∷_}
 use Prim.Native.Nat.{ℕ}
 use native.Mathlib.Omega.{arith}
 use lib.ListN.{length, set}
 use borrow.Author.Needs.{needs}
-use Rattle.vartrymoy.proofs.put.Statement.{statement}
-use Rattle.vartrymoy.proofs.put.Tie as tie
+use Rattle.results.proofs.put.Statement.{statement}
+use Rattle.results.proofs.put.Tie as tie
 
 four : (xs : List ℕ) (a b c d : ℕ) → length xs ≡ 4 → set (set (set (set xs 0 a) 1 b) 2 c) 3 d ≡ a ∷ b ∷ c ∷ d ∷ []
 four [] a b c d e = absurd (omega arith)

@@ -1,13 +1,13 @@
--- `vartrymoy::number_or` meets its contract. Assumes nothing.
+-- `results::number_or` meets its contract. Assumes nothing.
 use mathlib.Core.Path.{_≡_, sym, ap}
 use Prim.Native.Nat.{ℕ}
 use borrow.Author.Needs.{needs}
 use Rattle.certfile.specs.declared.Header.{Header}
 use Rattle.certfile.specs.declared.Outcome.{Outcome}
 use Rattle.certfile.specs.declared.Outcome.the-variants.{Read, Refused}
-use Rattle.vartrymoy.specs.Filled.{numberOr}
-use Rattle.vartrymoy.proofs.number_or.Statement.{statement}
-use Rattle.vartrymoy.proofs.number_or.Tie as tie
+use Rattle.results.specs.Lists.{numberOr}
+use Rattle.results.proofs.number_or.Statement.{statement}
+use Rattle.results.proofs.number_or.Tie as tie
 
 when-read : (o : Outcome) (read : ℕ) (h : Header) → o ≡ Read h → read ≡ numberOr read o
 unfolding numberOr

@@ -1,9 +1,9 @@
--- `vartrymoy::put_written` meets its contract. Assumes nothing.
+-- `results::put_written` meets its contract. Assumes nothing.
 use mathlib.Core.Path.{sym, ap, _∙_}
 use borrow.Author.Needs.{needs}
-use Rattle.vartrymoy.specs.Written.{pairOf}
-use Rattle.vartrymoy.proofs.put_written.Statement.{statement}
-use Rattle.vartrymoy.proofs.put_written.Tie as tie
+use Rattle.results.specs.Lists.{pairOf}
+use Rattle.results.proofs.put_written.Statement.{statement}
+use Rattle.results.proofs.put_written.Tie as tie
 
 returns : tie.Need-returns
 unfolding pairOf

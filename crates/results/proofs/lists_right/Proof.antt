@@ -1,13 +1,13 @@
--- `vartrymoy::lists_right` meets its contract. Assumes nothing.
+-- `results::lists_right` meets its contract. Assumes nothing.
 use mathlib.Core.Path.{_≡_}
 use mathlib.Core.Bool.{Bool, false}
 use Prim.Native.Nat.{ℕ, _+_, _*_, _≤_, _<_}
 use lib.Dec.{leb}
 use borrow.Author.Needs.{needs}
 use borrow.Author.Tests.{eq-eqb, ne-eqb, le-leb, lt-leb}
-use Rattle.vartrymoy.specs.Answered.{listsRight}
-use Rattle.vartrymoy.proofs.lists_right.Statement.{statement}
-use Rattle.vartrymoy.proofs.lists_right.Tie as tie
+use Rattle.results.specs.Lists.{listsRight}
+use Rattle.results.proofs.lists_right.Statement.{statement}
+use Rattle.results.proofs.lists_right.Tie as tie
 
 module _ (states choices text result : ℕ) where
   other-result : (result ≡ 2 → ⊥) → false ≡ listsRight states choices text result
