@@ -1,6 +1,9 @@
 -- The first entries of tables that have room for a file, as its header counts them. Assumes nothing.
 use mathlib.Core.Path.{_≡_, sym}
-use lib.ListN.{length, take}
+use mathlib.Core.List.{List}
+use Prim.Native.Nat.{ℕ, _≤_}
+use native.Mathlib.Omega.{arith}
+use lib.ListN.{length, take, length-take}
 use lib.Seq.{length-take-le}
 use Rattle.model.specs.declared.limits.Lengths.{Lengths}
 use Rattle.model.specs.Tables.{Model, Claim, modelOf, claimOf}
@@ -35,6 +38,10 @@ cuts h count t q e =
       claims = sym (length-take-le _ (t .claims) (e 6));
       ranks = sym (length-take-le _ (t .ranks) (e 7));
     })
+
+-- what has the length that is asked is cut from a list that is no shorter
+pub reaches : (n : ℕ) (xs : List ℕ) → n ≡ length (take n xs) → n ≤ length xs
+reaches n xs e = omega (arith, length-take n xs)
 
 -- the states are those that the header counts
 pub states-counted : (h : Header) (count : Lengths) → count ≡ countsOf h → count .marks ≡ h .n

@@ -1,7 +1,7 @@
 -- The first entries of tables and of a lent list, as a header counts them. Assumes nothing.
 use mathlib.Core.Path.{_≡_, sym, ap, _∙_}
-use mathlib.Core.List.{List, [], _∷_, _++_}
-use Prim.Native.Nat.{ℕ, zero, suc, _≤_}
+use mathlib.Core.List.{List, _++_}
+use Prim.Native.Nat.{ℕ, _≤_}
 use native.Mathlib.Omega.{arith}
 use lib.ListN.{length, take, drop}
 use lib.Seq.{length-take-le, length-front, take-at}
@@ -19,12 +19,6 @@ use Rattle.certfile.specs.Contents.{modelCut, claimCut}
 use Rattle.certfile.proofs.Cut.{states-counted, modelTaken, claimTaken, model-cut, claim-cut}
 use Rattle.program.specs.Printed.{chosenIn}
 use Rattle.program.specs.Shows.{Long}
-
--- what is cut off is no more than there is
-pub fits : (n : ℕ) (l : List ℕ) → n ≡ length (take n l) → n ≤ length l
-fits zero l e = omega arith
-fits (suc n) [] e = omega arith
-fits (suc n) (x ∷ xs) e = let p : n ≡ length (take n xs) = omega arith in omega (arith, fits n xs p)
 
 -- a list and a text with room for all states have room for the choices that are counted
 pub long-enough : (kind states chosen most : ℕ) (list text : List ℕ) → chosen ≡ choiceCount kind states → states ≤ most → Long most list text

@@ -7,10 +7,10 @@ use native.Mathlib.Omega.{arith}
 use lib.ListN.{length, take}
 use lib.Seq.{length-take-le}
 use Rattle.certfile.specs.Tables.{Tables, tables, lent}
-use Rattle.certfile.proofs.Cut.{Cuts, cuts}
+use Rattle.certfile.proofs.Cut.{Cuts, cuts, reaches}
 use Rattle.certfile.proofs.Passed.{lengths-kept, read-roomy}
 use Rattle.program.specs.Shows.{Long}
-use Rattle.program.proofs.Cut.{fits, long-enough, still-fits, still-cut, first-entries}
+use Rattle.program.proofs.Cut.{long-enough, still-fits, still-cut, first-entries}
 use Rattle.program.proofs.Taken.{LoadedInto, too-long, not-too-long, printed-read, printed-refused}
 use borrow.Author.Needs.{needs}
 use Rattle.program.proofs.answer_within.Statement.{statement}
@@ -68,7 +68,7 @@ all c =
 long : (c : tie.After-choice-count) → Long (c .choice-count .result) (start (had c) .args .choices .now) (start (had c) .args .text .now)
 long c =
     let r = had c in
-    let few : c .before .counts-of .result .marks ≤ length (start r .args .marks .now) = omega (arith, fits _ _ (all c .marks), r .read .kept) in
+    let few : c .before .counts-of .result .marks ≤ length (start r .args .marks .now) = omega (arith, reaches _ _ (all c .marks), r .read .kept) in
     long-enough (known c .outcome .given .0 .0 .kind) _ _ _ _ _ (c .choice-count .ensures) few (start r .pre)
 
 -- the choice list's first entries after the check
@@ -134,21 +134,21 @@ answer-within-spec =
     tie.close
     (tie.spec (λ c. search needs) (λ c κs. search needs) (λ c. search needs) returns (λ c κs. search needs) (λ c. search needs)
     (λ c κs. search needs) (λ c κs. search needs)
-    (λ c. fits _ _ (all c .marks))
+    (λ c. reaches _ _ (all c .marks))
     (λ c. all (c .before) .marks)
-    (λ c. fits _ _ (all (c .before) .actionStarts))
+    (λ c. reaches _ _ (all (c .before) .actionStarts))
     (λ c. all (c .before .before) .actionStarts)
-    (λ c. fits _ _ (all (c .before .before) .branchStarts))
+    (λ c. reaches _ _ (all (c .before .before) .branchStarts))
     (λ c. all (c .before .before .before) .branchStarts)
-    (λ c. fits _ _ (all (c .before .before .before) .destinations))
+    (λ c. reaches _ _ (all (c .before .before .before) .destinations))
     (λ c. all (c .before .before .before .before) .destinations)
-    (λ c. fits _ _ (all (c .before .before .before .before) .weights))
+    (λ c. reaches _ _ (all (c .before .before .before .before) .weights))
     (λ c. all (c .before .before .before .before .before) .weights)
-    (λ c. fits _ _ (all (c .before .before .before .before .before) .costs))
+    (λ c. reaches _ _ (all (c .before .before .before .before .before) .costs))
     (λ c. all (c .before .before .before .before .before .before) .costs)
-    (λ c. fits _ _ (all (c .before .before .before .before .before .before) .claims))
+    (λ c. reaches _ _ (all (c .before .before .before .before .before .before) .claims))
     (λ c. all (c .before .before .before .before .before .before .before) .claims)
-    (λ c. fits _ _ (all (c .before .before .before .before .before .before .before) .ranks))
+    (λ c. reaches _ _ (all (c .before .before .before .before .before .before .before) .ranks))
     (λ c. all (c .before .before .before .before .before .before .before .before) .ranks)
     slice-relend-prefix-check slice-aggregate-check-9 (λ c κs. tt) slice-reshare-prefix-tell slice-aggregate-tell-2 tell-requires-2
     (λ c. search needs) (λ c. search needs) tell-requires-3

@@ -1,13 +1,11 @@
 -- `rewritten::rewritten` meets its contract: the tables have room for a file that was read, each is cut as the header counts it, and
 -- what is printed lies within the text. Assumes nothing.
-use mathlib.Core.Path.{_≡_, sym, _∙_}
-use mathlib.Core.List.{List, [], _∷_}
-use Prim.Native.Nat.{ℕ, _≤_}
+use mathlib.Core.Path.{sym, _∙_}
+use mathlib.Core.List.{[], _∷_}
 use native.Mathlib.Omega.{arith}
-use lib.ListN.{length, take, length-take}
 use Rattle.certfile.specs.Tables.{Tables, tables}
 use Rattle.certfile.proofs.Passed.{read-roomy}
-use Rattle.certfile.proofs.Cut.{Cuts, cuts}
+use Rattle.certfile.proofs.Cut.{Cuts, cuts, reaches}
 use Rattle.writer.proofs.Judged.{length-told}
 use Rattle.program.proofs.Taken.{shown-within}
 use borrow.Author.Needs.{needs}
@@ -27,10 +25,6 @@ read c = c .before .before .before .before .before .before .before .before .befo
 
 abbrev start : tie.After-read → tie.Start
 start c = c .before .before .before .before .before .before .before .before .before .before .before .before
-
--- what is cut at a length was as long
-reaches : (n : ℕ) (xs : List ℕ) → n ≡ length (take n xs) → n ≤ length xs
-reaches n xs e = omega (arith, length-take n xs)
 
 all : (c : tie.After-counts-of) → Cuts (c .counts-of .result) (after (read c))
 all c =
