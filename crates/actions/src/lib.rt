@@ -1,4 +1,6 @@
 // One action judged by its branches, and the lowest action of a state that keeps what is asked, or does not.
+#![tactic(auto)]
+
 ghost use Rattle.std.specs.Prelude.{◌≡◌, true, min, length};
 ghost use Rattle.std.specs.Bool.{beq};
 ghost use Rattle.model.specs.Kinds.{is_at_least};
@@ -10,7 +12,7 @@ use model::{Kind, Rank};
 
 // The numbers of a state: its own, its mark, its actions from the first up to, not with, the end, what their weights add up to,
 // its claim, its cost (0 if the claim has no costs) and its rank (0 if it has no ranks).
-#[derive(Drop)]
+#[derive(Clone, Copy)]
 pub struct State {
     pub place: u32,
     pub mark: u8,
@@ -38,7 +40,7 @@ fn weighted(lo: usize, hi: usize, destinations: &[u32], weights: &[u32], claims:
 }
 
 // That sum, and the least rank of the destinations; the mark for none is the largest.
-#[derive(Drop)]
+#[derive(Clone, Copy)]
 pub struct Swept {
     pub sum: u64,
     pub least: u32,

@@ -1,4 +1,6 @@
 // Reads one certificate file from standard input, and prints what comes of it.
+#![tactic(auto)]
+
 use libc::{STDIN_FILENO, STDOUT_FILENO};
 use program::Room;
 

@@ -10,7 +10,7 @@ use model::{Known, Lengths};
 use wire::Width;
 
 // The tables that not every kind has.
-#[derive(Drop)]
+#[derive(Clone, Copy)]
 struct Optional {
     costs: bool,
     ranks: bool,

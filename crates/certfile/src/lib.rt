@@ -1,4 +1,6 @@
 // The certificate file of document 01, read into lent tables.
+#![tactic(auto)]
+
 mod judge;
 mod layout;
 
@@ -11,7 +13,7 @@ pub use layout::{counts_of, length_of};
 use model::Lengths;
 
 // What a file says before its tables.
-#[derive(Drop)]
+#[derive(Clone, Copy)]
 pub struct Header {
     pub kind: u32,
     pub d: u32,
@@ -45,14 +47,14 @@ impl Header {
 }
 
 // What reading a file answers.
-#[derive(Drop)]
+#[derive(Clone, Copy)]
 pub enum Outcome {
     Read(Header),
     Refused { number: u32, place: u32 },
 }
 
 // Document 01's numbers of the refusals over a file.
-#[derive(Drop)]
+#[derive(Clone, Copy)]
 pub struct FileRefusal {}
 
 impl FileRefusal {

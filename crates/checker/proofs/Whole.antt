@@ -25,7 +25,7 @@ use Rattle.model.specs.Conditions.{judged}
 use Rattle.model.specs.Checked.{accepts, greatest_rank, conditions, verdict_of, refusal_of, answer_of, choice, chosen_of, choices_of}
 use Rattle.model.proofs.Tried.{tried_append, tried_all, then_passed, then_stopped, then_assoc, each_all}
 use Rattle.model.proofs.Formed.{entries_most, sized, formed}
-use Rattle.model.proofs.Known.{named, unnamed}
+use Rattle.model.proofs.KnownKinds.{named, unnamed}
 use Rattle.rows.specs.Fitting.{Fitting}
 use Rattle.conditions.specs.Ready.{Ready}
 use Rattle.conditions.specs.Judging.{picked, broken, room_of}

@@ -1,4 +1,6 @@
 // The one total entry over lent tables: refusals in number order, then the conditions, then the choices.
+#![tactic(auto)]
+
 mod sizes;
 
 ghost use Rattle.std.specs.Prelude.{◌≡◌, ◌≤◌, length, take};

@@ -1,4 +1,6 @@
 // Refusals 12 to 14, costs, claims and ranks in their ranges; and R, the greatest rank that is not none.
+#![tactic(auto)]
+
 ghost use Rattle.std.specs.Prelude.{◌≡◌, ◌<◌, ◌^◌, max, length};
 ghost use Rattle.model.specs.Answers.{pass, tried};
 ghost use Rattle.model.specs.Refusals.{limit_of, rank_right, costs_test, claims_test, ranks_test, ranges_of};

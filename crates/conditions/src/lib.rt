@@ -1,4 +1,6 @@
 // The fixed point conditions 21 to 24 and the choices, over tables that are well formed.
+#![tactic(auto)]
+
 ghost use Rattle.std.specs.Prelude.{◌≡◌, cond, ◌≤◌, length, get_or};
 ghost use Rattle.model.specs.Limits.{none};
 ghost use Rattle.model.specs.Tables.{model_of, claim_of};
@@ -94,7 +96,7 @@ fn judge_target(kind: Kind, c: u32, state: State) -> Verdict
 }
 
 // The verdict on one state, and its choice; none for "every" kinds and at targets.
-#[derive(Drop)]
+#[derive(Clone, Copy)]
 pub struct Judged {
     pub verdict: Verdict,
     pub choice: u32,

@@ -9,4 +9,4 @@ pub mod Kept
 pub mod Chosen
 pub mod Named
 pub mod Tied
-pub mod Known
+pub mod KnownKinds

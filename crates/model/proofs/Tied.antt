@@ -4,7 +4,7 @@ use mathlib.Core.Bool.{Bool, true, false, ◌&&◌}
 use mathlib.Core.List.{List, ◌∷◌}
 use mathlib.Core.Logic.{◌⊎◌, inl, inr, ⊎_elim}
 use Prim.Native.Nat.{ℕ, ◌≤◌, ◌<◌, zero-le}
-use Rattle.walk.specs.Fold.{greatest, listed}
+use Rattle.walk.specs.Fold.{listed}
 use Rattle.walk.proofs.Bools.{and_right}
 use Rattle.walk.proofs.Fold.{le_greatest, greatest_is}
 use lib.Dec.{T, eqb, eqb→eq}

@@ -3,7 +3,7 @@ ghost use Rattle.std.specs.Prelude.{◌≡◌};
 ghost use Rattle.model.specs.Answers.{number, then, require};
 ghost use Rattle.model.specs.Checked.{accepts};
 
-#[derive(Drop)]
+#[derive(Clone, Copy)]
 pub enum Verdict {
     Accepted {
         rank: u32,
@@ -68,14 +68,14 @@ impl Verdict {
 }
 
 // The verdict, and the kind's number as lent.
-#[derive(Drop)]
+#[derive(Clone, Copy)]
 pub struct Answer {
     pub kind: u32,
     pub verdict: Verdict,
 }
 
 // Document 01's numbers of the refusals over tables.
-#[derive(Drop)]
+#[derive(Clone, Copy)]
 pub struct Refusal {}
 
 impl Refusal {
@@ -109,7 +109,7 @@ impl Refusal {
 }
 
 // Document 01's numbers of the conditions.
-#[derive(Drop)]
+#[derive(Clone, Copy)]
 pub struct Condition {}
 
 impl Condition {

@@ -3,7 +3,7 @@ ghost use Rattle.std.specs.Prelude.{◌≡◌};
 ghost use Rattle.model.specs.Kinds.{is_cost, is_at_least, is_some, known_as};
 ghost use Rattle.model.specs.Refusals.{choice_count, entries};
 
-#[derive(Drop)]
+#[derive(Clone, Copy)]
 pub enum Measure {
     Arrival,
     Cost,
@@ -20,7 +20,7 @@ impl Measure {
     }
 }
 
-#[derive(Drop)]
+#[derive(Clone, Copy)]
 pub enum Bound {
     AtMost,
     AtLeast,
@@ -37,7 +37,7 @@ impl Bound {
     }
 }
 
-#[derive(Drop)]
+#[derive(Clone, Copy)]
 pub enum Who {
     Every,
     Some,
@@ -55,7 +55,7 @@ impl Who {
 }
 
 // What a claim of one kind is about, and whether it has costs, has ranks and writes choices.
-#[derive(Drop)]
+#[derive(Clone, Copy)]
 pub struct Kind {
     pub measure: Measure,
     pub bound: Bound,
@@ -66,7 +66,7 @@ pub struct Kind {
 }
 
 // A kind's number is 1 to 8, or it is no kind.
-#[derive(Drop)]
+#[derive(Clone, Copy)]
 pub enum Known {
     As(Kind),
     Nothing,

@@ -1,4 +1,6 @@
 // What document 01 speaks of: limits and the none mark, the eight kinds of claim, the answer, and one action's branches.
+#![tactic(auto)]
+
 mod answers;
 mod kinds;
 mod limits;

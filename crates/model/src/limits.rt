@@ -1,7 +1,7 @@
 // Each limit of document 01 once, with the kind of thing that it bounds.
 
 // A model's greatest counts of states, actions and branches.
-#[derive(Drop)]
+#[derive(Clone, Copy)]
 pub struct Model {}
 
 impl Model {
@@ -13,7 +13,7 @@ impl Model {
 }
 
 // A weight is 1 to its scale D, and D is 1 to this.
-#[derive(Drop)]
+#[derive(Clone, Copy)]
 pub struct Weight {}
 
 impl Weight {
@@ -21,7 +21,7 @@ impl Weight {
 }
 
 // A claim's greatest scale C, for arrival and for cost, and the greatest claim of a cost kind.
-#[derive(Drop)]
+#[derive(Clone, Copy)]
 pub struct Claim {}
 
 impl Claim {
@@ -33,7 +33,7 @@ impl Claim {
 }
 
 // The cost of a state is at most this.
-#[derive(Drop)]
+#[derive(Clone, Copy)]
 pub struct Cost {}
 
 impl Cost {
@@ -41,7 +41,7 @@ impl Cost {
 }
 
 // A rank, the choice list and the action of an answer have one mark for none.
-#[derive(Drop)]
+#[derive(Clone, Copy)]
 pub struct Rank {}
 
 impl Rank {
@@ -49,7 +49,7 @@ impl Rank {
 }
 
 // A number for each of the tables 1 to 9: its entries, or the place of its first.
-#[derive(Drop)]
+#[derive(Clone, Copy)]
 pub struct Lengths {
     pub marks: usize,
     pub action_starts: usize,

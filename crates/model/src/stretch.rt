@@ -3,7 +3,7 @@ ghost use Rattle.std.specs.Prelude.{◌≡◌, ◌+◌, ◌*◌, length};
 ghost use Rattle.model.specs.Branches.{stretch_of, within};
 
 // The entries of a table from one place up to, not with, the other.
-#[derive(Drop)]
+#[derive(Clone, Copy)]
 pub struct Stretch {
     pub from: usize,
     pub to: usize,

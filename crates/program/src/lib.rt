@@ -1,4 +1,6 @@
 // What is printed for a file that is read into lent tables, and what the check program prints.
+#![tactic(auto)]
+
 mod refusal;
 
 ghost use Rattle.std.specs.Prelude.{◌≡◌, ◌+◌, ◌*◌, ◌≤◌, length};
@@ -14,7 +16,7 @@ use report::Longest;
 use wire::Width;
 
 // The bytes that a state, an action and a branch take in a file with all eight tables, and what it has besides.
-#[derive(Drop)]
+#[derive(Clone, Copy)]
 struct Bytes {}
 
 impl Bytes {
@@ -28,7 +30,7 @@ impl Bytes {
 }
 
 // The check program's room: states, actions and branches; the bytes of a file that fills it; and the bytes of what is printed.
-#[derive(Drop)]
+#[derive(Clone, Copy)]
 pub struct Room {}
 
 impl Room {
@@ -47,7 +49,7 @@ impl Room {
 }
 
 // The most bytes that any file has.
-#[derive(Drop)]
+#[derive(Clone, Copy)]
 pub struct Whole {}
 
 impl Whole {
@@ -58,7 +60,7 @@ impl Whole {
 }
 
 // What was printed: its number in document 01, and its bytes.
-#[derive(Drop)]
+#[derive(Clone, Copy)]
 pub struct Told {
     pub number: u32,
     pub bytes: usize,

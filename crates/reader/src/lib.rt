@@ -1,4 +1,6 @@
 // The lent bytes of a file and a place in them, kept together: what is read of a file is read through one.
+#![tactic(auto)]
+
 ghost use Rattle.std.specs.Prelude.{◌≡◌, ◌+◌, ◌*◌, ◌≤◌, length};
 ghost use Rattle.wire.specs.Words.{word};
 ghost use Rattle.wire.specs.Blocks.{block_of, overwritten};

@@ -1,4 +1,6 @@
 // What the check program prints: the verdict's line and, after acceptance, a line for each entry of the choice list.
+#![tactic(auto)]
+
 ghost use Rattle.std.specs.Prelude.{◌≡◌, ◌++◌, ◌+◌, ◌*◌, ◌≤◌, leb, length, drop};
 ghost use Rattle.report.specs.Text.{decimal, dashed, field, head_of, line_of, lines_of, text_of};
 ghost use Rattle.walk.specs.Put.{Put};
@@ -6,7 +8,7 @@ ghost use Rattle.walk.specs.Put.{Put};
 use model::{Rank, Verdict};
 
 // The most bytes that the verdict's line and the line of a choice take.
-#[derive(Drop)]
+#[derive(Clone, Copy)]
 pub struct Longest {}
 
 impl Longest {

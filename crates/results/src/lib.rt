@@ -1,4 +1,6 @@
 // What an exported function puts into the lists that take its results, and how long they are.
+#![tactic(auto)]
+
 ghost use Rattle.std.specs.Prelude.{◌≡◌, [], ◌∷◌, length};
 ghost use Rattle.model.specs.Answers.{number, value, action};
 ghost use Rattle.results.specs.Lists.{numbers_of, number_or, header_after, written_or, pair_of, lists_right};
@@ -8,7 +10,7 @@ use model::{Answer, Rank, Verdict};
 use writer::Written;
 
 // The length of the list that takes an answer.
-#[derive(Drop)]
+#[derive(Clone, Copy)]
 pub struct AnswerList {}
 
 impl AnswerList {
@@ -16,7 +18,7 @@ impl AnswerList {
 }
 
 // What a verdict has beside its number.
-#[derive(Drop)]
+#[derive(Clone, Copy)]
 struct Values {
     value: u32,
     action: u32,
@@ -62,7 +64,7 @@ pub fn put(r: Answer, answer: &mut [u32]) -> u32
 }
 
 // The length of the list that takes what a file says before its tables.
-#[derive(Drop)]
+#[derive(Clone, Copy)]
 pub struct HeaderList {}
 
 impl HeaderList {
@@ -96,7 +98,7 @@ pub fn put_header(o: Outcome, header: &mut [u32])
 }
 
 // The length of the list that takes what writing answers.
-#[derive(Drop)]
+#[derive(Clone, Copy)]
 pub struct ResultList {}
 
 impl ResultList {

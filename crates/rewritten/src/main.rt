@@ -1,5 +1,7 @@
 // Reads many files from standard input, each after its length in four bytes, writes what each holds, and prints whether the bytes are
 // the file's.
+#![tactic(auto)]
+
 ghost use Rattle.std.specs.Prelude.{◌≡◌, ℕ, ◌+◌, ◌≤◌, ◌<◌, ◌^◌, length};
 ghost use Rattle.writer.specs.declared.Written.TheVariants.{Length};
 

@@ -1,4 +1,6 @@
 // Rows counted: refusals 6 to 11, over tables 1 to 5 whose lengths are right.
+#![tactic(auto)]
+
 ghost use Rattle.std.specs.Prelude.{◌≡◌, ◌<◌, ◌^◌, length};
 ghost use Rattle.model.specs.Answers.{pass, tried};
 ghost use Rattle.model.specs.Tables.{model_of};

@@ -1,11 +1,13 @@
 // Cases that follow each other on standard input, each after its length in four bytes.
+#![tactic(auto)]
+
 ghost use Rattle.std.specs.Prelude.{◌≡◌, ℕ, ◌≤◌, length};
 
 use libc::STDIN_FILENO;
 use wire::Width;
 
 // What the input has next: a case, with the bytes of it that were read, or its end.
-#[derive(Drop)]
+#[derive(Clone, Copy)]
 pub enum Next {
     Case { bytes: usize },
     End,

@@ -1,5 +1,7 @@
 // The library to link: document 01's check, reader and writer, and a file's whole answer, for C and whatever calls C, in numbers and
 // lists of numbers.
+#![tactic(auto)]
+
 ghost use Rattle.std.specs.Prelude.{length};
 ghost use Rattle.model.specs.Tables.{model_of, claim_of};
 ghost use Rattle.certfile.specs.Tables.{tables};

@@ -1,4 +1,6 @@
 // Reads many files from standard input, each after its length in four bytes, and prints for each what certcheck prints.
+#![tactic(auto)]
+
 ghost use Rattle.std.specs.Prelude.{◌≤◌, length};
 
 use libc::STDOUT_FILENO;

@@ -22,13 +22,13 @@ seek_start p lo hi h = record { high = h; rest = refl }
 
 module _ {p : ℕ → Bool} {hi whole i : ℕ} (w : Seeking p hi whole i) where
   pub seek_pass : i < hi → p i ≡ false → Seeking p hi whole (i + 1)
-  seek_pass h e = record { high = omega arith; rest = sym (Fold.first-pass p i hi h e) ∙ w.rest }
+  seek_pass h e = record { high = omega arith; rest = sym (Fold.first_pass p i hi h e) ∙ w.rest }
 
   pub seek_hit : i < hi → p i ≡ true → i ≡ whole
-  seek_hit h e = sym (Fold.first-hit p i hi h e) ∙ w.rest
+  seek_hit h e = sym (Fold.first_hit p i hi h e) ∙ w.rest
 
   pub seek_end : hi ≤ i → hi ≡ whole
-  seek_end h = sym (Fold.first-end p i hi h) ∙ w.rest
+  seek_end h = sym (Fold.first_end p i hi h) ∙ w.rest
 
 -- A sum: what was added so far and the rest come to the whole.
 pub record Summing (f : ℕ → ℕ) (hi whole i acc : ℕ) : Type 0 where
@@ -47,7 +47,7 @@ module _ {f : ℕ → ℕ} {hi whole i acc : ℕ} (w : Summing f hi whole i acc)
   sum_within h = omega (arith, Fold.sum_step f i hi h, w.rest)
 
   pub sum_ends : hi ≤ i → acc ≡ whole
-  sum_ends h = omega (arith, Fold.sum-end f i hi h, w.rest)
+  sum_ends h = omega (arith, Fold.sum_end f i hi h, w.rest)
 
 -- A maximum: the greatest so far and that of the rest come to the whole.
 pub record Rising (f : ℕ → ℕ) (hi whole i acc : ℕ) : Type 0 where
@@ -59,10 +59,10 @@ rise_start f lo hi h = record { high = h; rest = omega arith }
 
 module _ {f : ℕ → ℕ} {hi whole i acc : ℕ} (w : Rising f hi whole i acc) where
   pub rise_pass : i < hi → (next : ℕ) → next ≡ max acc (f i) → Rising f hi whole (i + 1) next
-  rise_pass h next e = record { high = omega arith; rest = omega (arith, Fold.greatest-step f i hi h, w.rest, e) }
+  rise_pass h next e = record { high = omega arith; rest = omega (arith, Fold.greatest_step f i hi h, w.rest, e) }
 
   pub rise_end : hi ≤ i → acc ≡ whole
-  rise_end h = omega (arith, Fold.greatest-end f i hi h, w.rest)
+  rise_end h = omega (arith, Fold.greatest_end f i hi h, w.rest)
 
 -- A minimum: the least so far and that of the rest come to the whole.
 pub record Sinking (f : ℕ → ℕ) (z hi whole i acc : ℕ) : Type 0 where
@@ -70,14 +70,14 @@ pub record Sinking (f : ℕ → ℕ) (z hi whole i acc : ℕ) : Type 0 where
   pub rest : min acc (least f z i hi) ≡ whole
 
 pub sink_start : (f : ℕ → ℕ) (z lo hi : ℕ) → lo ≤ hi → Sinking f z hi (least f z lo hi) lo z
-sink_start f z lo hi h = record { high = h; rest = omega (arith, Fold.least-le f z hi lo) }
+sink_start f z lo hi h = record { high = h; rest = omega (arith, Fold.least_le f z hi lo) }
 
 module _ {f : ℕ → ℕ} {z hi whole i acc : ℕ} (w : Sinking f z hi whole i acc) where
   pub sink_pass : i < hi → (next : ℕ) → next ≡ min acc (f i) → Sinking f z hi whole (i + 1) next
   sink_pass h next e = record { high = omega arith; rest = omega (arith, Fold.least_step f z i hi h, w.rest, e) }
 
   pub sink_end : hi ≤ i → acc ≤ z → acc ≡ whole
-  sink_end h l = omega (arith, Fold.least-end f z i hi h, w.rest)
+  sink_end h l = omega (arith, Fold.least_end f z i hi h, w.rest)
 
 -- A list filled from the front: f of each index below i, then the entries that were there.
 pub record Filling (f : ℕ → ℕ) (start : List ℕ) (hi i : ℕ) (now : List ℕ) : Type 0 where
@@ -86,14 +86,14 @@ pub record Filling (f : ℕ → ℕ) (start : List ℕ) (hi i : ℕ) (now : List
   pub filled : now ≡ listed f 0 i ++ drop i start
 
 pub fill_start : (f : ℕ → ℕ) (start : List ℕ) (hi : ℕ) → hi ≤ length start → Filling f start hi 0 start
-fill_start f start hi h = record { high = zero-le; room = h; filled = rw (Fold.listed-end f 0 0 (le_refl 0)) }
+fill_start f start hi h = record { high = zero-le; room = h; filled = rw (Fold.listed_end f 0 0 (le_refl 0)) }
 
 module _ {f : ℕ → ℕ} {start : List ℕ} {hi i : ℕ} {now : List ℕ} (w : Filling f start hi i now) where
   -- its length is what it was
   pub fill_length : length now ≡ length start
   fill_length =
       ap length w.filled
-      ∙ simp (length-append, length-drop, Fold.listed-length) (omega (arith, w.high, w.room))
+      ∙ simp (length-append, length-drop, Fold.listed_length) (omega (arith, w.high, w.room))
 
   pub fill_pass : i < hi → (v : ℕ) → v ≡ f i → Filling f start hi (i + 1) (set now i v)
   fill_pass h v e =
@@ -102,7 +102,7 @@ module _ {f : ℕ → ℕ} {start : List ℕ} {hi i : ℕ} {now : List ℕ} (w :
         room = w.room;
         filled =
             rw (w.filled, drop-cons start i 0 (omega (arith, w.room)), e)
-            (set_at (listed f 0 i) (get_or start i 0) (drop (suc i) start) (f i) i (Fold.listed-length f i 0 ∙ omega arith)
+            (set_at (listed f 0 i) (get_or start i 0) (drop (suc i) start) (f i) i (Fold.listed_length f i 0 ∙ omega arith)
             ∙ rw (Fold.listed_more f i 0 zero-le, add-one i) (sym (append_assoc (listed f 0 i) (f i ∷ []) (drop (suc i) start))));
       }
 
@@ -112,7 +112,7 @@ module _ {f : ℕ → ℕ} {start : List ℕ} {hi i : ℕ} {now : List ℕ} (w :
 -- entries listed one by one are the front of their list
 pub listed_take : (xs : List ℕ) (n : ℕ) → n ≤ length xs → listed (λ i. get_or xs i 0) 0 n ≡ take n xs
 listed_take xs n h =
-    ext_get_or 0 (listed (λ i. get_or xs i 0) 0 n) (take n xs) (Fold.listed-length (λ i. get_or xs i 0) n 0 ∙ sym (length-take-le n xs h ∙ omega arith))
+    ext_get_or 0 (listed (λ i. get_or xs i 0) 0 n) (take n xs) (Fold.listed_length (λ i. get_or xs i 0) n 0 ∙ sym (length-take-le n xs h ∙ omega arith))
     (λ i l.
-    let b : i < n = omega (arith, Fold.listed-length (λ i. get_or xs i 0) n 0) in
+    let b : i < n = omega (arith, Fold.listed_length (λ i. get_or xs i 0) n 0) in
     Fold.listed_at (λ i. get_or xs i 0) 0 n 0 i (omega arith) ∙ ap (λ (j : ℕ). get_or xs j 0) (zero-add i) ∙ sym (get_or-take n xs i 0 b))

@@ -1,4 +1,6 @@
 // Big-endian words of a file, and runs of them.
+#![tactic(auto)]
+
 ghost use Rattle.std.specs.Prelude.{◌≡◌, ◌+◌, ◌*◌, ◌≤◌, length, [], ◌∷◌};
 ghost use Rattle.walk.specs.Put.{Put};
 ghost use Rattle.wire.specs.Words.{word, bytes, little, little_bytes, reversed};
@@ -6,7 +8,7 @@ ghost use Rattle.wire.specs.Blocks.{block_of, overwritten};
 ghost use Rattle.wire.specs.Sections.{spelled};
 
 // The bytes that a number takes: a byte, a word or a long word.
-#[derive(Drop)]
+#[derive(Clone, Copy)]
 pub struct Width {}
 
 impl Width {

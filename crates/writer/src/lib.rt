@@ -1,4 +1,6 @@
 // The certificate file of document 01, written into a lent buffer.
+#![tactic(auto)]
+
 ghost use Rattle.std.specs.Prelude.{◌≡◌, ◌-◌, ◌≤◌, ◌<◌, ◌^◌};
 ghost use Rattle.walk.specs.Put.{Put};
 ghost use Rattle.model.specs.Tables.{model_of, claim_of};
@@ -12,14 +14,14 @@ use model::Verdict;
 use wire::Width;
 
 // What writing a file answers.
-#[derive(Drop)]
+#[derive(Clone, Copy)]
 pub enum Written {
     Length { bytes: usize },
     Refused { number: u32, place: u32 },
 }
 
 // The number of the refusal that the writer adds to document 01's.
-#[derive(Drop)]
+#[derive(Clone, Copy)]
 pub struct WriteRefusal {}
 
 impl WriteRefusal {

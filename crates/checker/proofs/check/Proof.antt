@@ -4,7 +4,7 @@ use borrow.Author.Rules.{rules}
 use Rattle.model.specs.Kinds.{Columns}
 use Rattle.model.specs.declared.kinds.Kind.{Kind}
 use Rattle.model.proofs.Columns.{columns}
-use Rattle.model.proofs.Known.{named}
+use Rattle.model.proofs.KnownKinds.{named}
 use Rattle.checker.proofs.Whole.{known_kept, unknown_kept}
 use Rattle.checker.proofs.check.Statement.{statement}
 use Rattle.checker.proofs.check.Tie as tie

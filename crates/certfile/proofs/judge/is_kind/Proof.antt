@@ -1,7 +1,7 @@
 -- `certfile::judge::is_kind` meets its contract. Assumes nothing.
 use mathlib.Core.Path.{sym, ◌∙◌}
 use borrow.Author.Rules.{rules}
-use Rattle.model.proofs.Known.{named, unnamed}
+use Rattle.model.proofs.KnownKinds.{named, unnamed}
 use Rattle.certfile.proofs.judge.is_kind.Statement.{statement}
 use Rattle.certfile.proofs.judge.is_kind.Tie as tie
 

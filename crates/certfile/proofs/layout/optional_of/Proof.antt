@@ -2,7 +2,7 @@
 use mathlib.Core.Path.{sym, ap, ◌∙◌}
 use borrow.Author.Rules.{rules}
 use Rattle.model.specs.declared.kinds.Kind.{Kind}
-use Rattle.model.proofs.Known.{named, unnamed, neither}
+use Rattle.model.proofs.KnownKinds.{named, unnamed, neither}
 use Rattle.certfile.proofs.layout.optional_of.Statement.{statement}
 use Rattle.certfile.proofs.layout.optional_of.Tie as tie
 
