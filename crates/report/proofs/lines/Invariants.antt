@@ -1,11 +1,8 @@
 -- `report::lines` meets its contract: one line after the other. Assumes nothing.
 use Prim.Native.Nat.{◌-◌}
 use lib.ListN.{length, get_or}
-use borrow.Author.Rules.{rules}
-use native.Mathlib.Omega.{arith}
-use Rattle.report.specs.Text.{line_of, lines_of}
-use Rattle.walk.proofs.Putting.{put_length}
-use Rattle.report.proofs.Listing.{Listing, list_start, list_pass, list_end}
+use Rattle.report.specs.Text.{line_of}
+use Rattle.report.proofs.Listing.{Listing}
 use Rattle.report.proofs.lines.Given as goal
 
 abbrev pub invariant-loop-i : goal.invariant-loop-i
