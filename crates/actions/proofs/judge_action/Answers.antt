@@ -1,4 +1,5 @@
 -- `actions::judge_action` meets its contract: the numbers that it compares are those of the definition, and they fit.
+-- Assumes nothing.
 use mathlib.Core.Path.{◌∙◌}
 use Rattle.actions.proofs.Action.{suits_sum, keeps_unasked, keeps_falling, keeps_unfallen}
 use Rattle.actions.proofs.judge_action.Goals as goal
