@@ -6,9 +6,10 @@ ghost use Rattle.std.specs.Prelude.{◌≡◌, ℕ, ◌+◌, ◌≤◌, ◌<◌,
 ghost use Rattle.writer.specs.declared.Written.TheVariants.{Length};
 
 use certfile::{FileRefusal, Outcome};
-use libc::STDOUT_FILENO;
 use program::Room;
 use report::Longest;
+use std::io;
+use std::io::{Stdin, Stdout, Write};
 use stream::Next;
 use writer::Written;
 
@@ -98,28 +99,31 @@ fn rewritten(file: &[u8], text: &mut [u8]) -> usize
 }
 
 // Reads one file and prints what comes of it: was there one?
-fn one(file: &mut [u8], text: &mut [u8]) -> bool
+fn one(input: &mut Stdin, output: &mut Stdout, file: &mut [u8], text: &mut [u8]) -> io::Result<bool>
     requires { 64 ≤ length text.old }
 {
-    let next = stream::read(file);
+    let next = stream::read(input, file)?;
     let Next::Case { bytes } = next else {
-        return false;
+        return Ok(false);
     };
     let k = rewritten(&file[..bytes], text);
-    io::write_all(STDOUT_FILENO, &text[..k]);
-    true
+    output.write_all(&text[..k])?;
+    Ok(true)
 }
 
-fn main() {
+fn main(rt: HostRuntime) -> io::Result<()> {
+    let mut input = rt.stdin();
+    let mut output = rt.stdout();
     let mut room = [0u8; Room::BYTES + 1];
     let file: &mut [u8] = &mut room;
-    let mut output = [0u8; Longest::VERDICT];
-    let text: &mut [u8] = &mut output;
+    let mut printed = [0u8; Longest::VERDICT];
+    let text: &mut [u8] = &mut printed;
     let mut turns = u64::MAX;
     while 0 < turns {
-        if !one(file, text) {
-            return;
+        if !one(&mut input, &mut output, file, text)? {
+            return Ok(());
         }
         turns -= 1;
     }
+    Ok(())
 }

@@ -3,33 +3,37 @@
 
 ghost use Rattle.std.specs.Prelude.{◌≤◌, length};
 
-use libc::STDOUT_FILENO;
 use program::Room;
+use std::io;
+use std::io::{Stdin, Stdout, Write};
 use stream::Next;
 
 // Reads one file and prints what comes of it: was there one?
-fn one(file: &mut [u8], text: &mut [u8]) -> bool
-    requires* { do ⌜ (← ⟦Room::TEXT⟧) ≤ length text.old ⌝ }
+fn one(input: &mut Stdin, output: &mut Stdout, file: &mut [u8], text: &mut [u8]) -> io::Result<bool>
+    requires { Room.TEXT ≤ length text.old }
 {
-    let next = stream::read(file);
+    let next = stream::read(input, file)?;
     let Next::Case { bytes } = next else {
-        return false;
+        return Ok(false);
     };
     let k = program::answer(&file[..bytes], text);
-    io::write_all(STDOUT_FILENO, &text[..k]);
-    true
+    output.write_all(&text[..k])?;
+    Ok(true)
 }
 
-fn main() {
+fn main(rt: HostRuntime) -> io::Result<()> {
+    let mut input = rt.stdin();
+    let mut output = rt.stdout();
     let mut room = [0u8; Room::BYTES + 1];
     let file: &mut [u8] = &mut room;
-    let mut output = [0u8; Room::TEXT];
-    let text: &mut [u8] = &mut output;
+    let mut printed = [0u8; Room::TEXT];
+    let text: &mut [u8] = &mut printed;
     let mut turns = u64::MAX;
     while 0 < turns {
-        if !one(file, text) {
-            return;
+        if !one(&mut input, &mut output, file, text)? {
+            return Ok(());
         }
         turns -= 1;
     }
+    Ok(())
 }
