@@ -2,6 +2,7 @@
 use mathlib.Core.Path.{◌≡◌, refl, sym, ap, ◌∙◌}
 use mathlib.Core.List.{List, [], ◌∷◌, ◌++◌, append_assoc, append-nil}
 use Prim.Native.Nat.{ℕ, zero, suc, ◌+◌, ◌*◌, ◌≤◌, ◌<◌}
+use native.Mathlib.Nat.{add-zero}
 use native.Mathlib.Numerals.{add-one}
 use native.Mathlib.Omega.{arith}
 use lib.ListN.{length, get_or, drop, length-append, drop_of_length-le}
@@ -51,6 +52,10 @@ pub record Spelling (width : ℕ) (table t : List ℕ) (start i at : ℕ) (now :
   pub put : Put t now start at done
   pub place : at ≡ start + width * i
   pub whole : done ++ spelled width (drop i table) ≡ spelled width table
+
+pub spell_start : (width : ℕ) (table t : List ℕ) (start : ℕ) → Spelling width table t start 0 start t
+spell_start width table t start =
+    record { high = omega arith; done = []; put = record { next = sym (add-zero start); text = refl }; place = omega arith; whole = refl }
 
 module _ {width : ℕ} {table t : List ℕ} {start i at : ℕ} {now : List ℕ} (w : Spelling width table t start i at now) where
   pub spell_pass : {now' : List ℕ} {at' : ℕ} → i < length table → Put now now' at at' (bytes width (get_or table i 0))
