@@ -1,7 +1,7 @@
 -- `rows::action_test` meets its contract: the branches below j are right, and total is the sum of their weights.
 -- Assumes nothing.
 use native.Mathlib.Omega.{arith}
-use Rattle.rows.proofs.Counting.{count_pass, count_end, stop_nine, stop_low, stop_high, stop_eleven}
+use Rattle.rows.proofs.Counting.{count_pass, count_end, stop_nine, stop_low, stop_eleven}
 use Rattle.rows.proofs.action_test.Goals as goal
 
 pub returns-then-n-destinations : goal.returns-then-n-destinations
@@ -11,13 +11,9 @@ pub returns-then-weight-lt1 : goal.returns-then-weight-lt1
 returns-then-weight-lt1 c =
     stop_low c.loop-j.invariant c.loop-j-test.true c.if-n-destinations.false c.if-weight-lt1.true
 
-pub returns-then-d-weight : goal.returns-then-d-weight
-returns-then-d-weight c =
-    stop_high c.loop-j.invariant c.loop-j-test.true c.if-n-destinations.false c.if-weight-lt1.false c.if-d-weight.true
-
 pub loop-j-preserved : goal.loop-j-preserved
 loop-j-preserved c =
-    count_pass c.loop-j.invariant c.loop-j-test.true c.if-n-destinations.false c.if-weight-lt1.false c.if-d-weight.false
+    count_pass c.loop-j.invariant c.loop-j-test.true c.if-n-destinations.false c.if-weight-lt1.false (omega arith)
     (omega (arith, c.type_inv.weights c.loop-j.j))
 
 pub returns-then-total-d : goal.returns-then-total-d
