@@ -148,9 +148,9 @@ pub fn lowest(
     claims: &[u64],
     ranks: &[u32],
 ) -> u32
-    requires fact { let y = rows_of branch_starts.now destinations.now weights.now claims.now ranks.now in
+    requires walkable { let y = rows_of branch_starts.now destinations.now weights.now claims.now ranks.now in
         Walkable kind state y }
-    requires bound_value { asked ≡ true → is_at_least kind.bound ≡ true }
+    requires asked_at_least { asked ≡ true → is_at_least kind.bound ≡ true }
     ensures { let y = rows_of branch_starts.now destinations.now weights.now claims.now
         ranks.now in
         result ≡ lowest_of kind wanted asked state y }

@@ -90,7 +90,7 @@ fn settle(
     ranks: &[u32],
     choices: &mut [u32],
 ) -> Verdict
-    requires fact { let t = model_of d marks.now action_starts.now branch_starts.now destinations.now weights.now in
+    requires ready { let t = model_of d marks.now action_starts.now branch_starts.now destinations.now weights.now in
         Ready kind t (claim_of c costs.now claims.now ranks.now) }
     requires choices_len { length choices.old ≡ entries kind.choices (length marks.now) }
     ensures { let t = model_of d marks.now action_starts.now branch_starts.now

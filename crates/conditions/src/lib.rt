@@ -228,7 +228,7 @@ pub fn judge(
     ranks: &[u32],
     room: &mut [u32],
 ) -> Verdict
-    requires fact { let t = model_of d marks.now action_starts.now branch_starts.now destinations.now weights.now in
+    requires ready { let t = model_of d marks.now action_starts.now branch_starts.now destinations.now weights.now in
         Ready kind t (claim_of c costs.now claims.now ranks.now) }
     requires marks_in_bounds { length marks.now ≤ length room.old }
     ensures { let t = model_of d marks.now action_starts.now branch_starts.now

@@ -5,7 +5,7 @@ ghost use Rattle.std.specs.Prelude.{◌≡◌, ◌+◌, ◌*◌, ◌≤◌, leng
 ghost use Rattle.wire.specs.Words.{word};
 ghost use Rattle.wire.specs.Blocks.{block_of, overwritten};
 
-#[derive(Drop)]
+#[derive(Clone, Copy)]
 pub struct Reader<'a> {
     pub src: &'a [u8],
     pub at: usize,

@@ -1,6 +1,7 @@
 -- The walk over one action's branches: what it has shown at branch j, and what each way out of it answers. Assumes nothing.
 use mathlib.Core.Path.{◌≡◌, sym, ◌∙◌}
 use mathlib.Core.List.{List}
+use mathlib.Core.Bool.{false}
 use Prim.Native.Nat.{ℕ, ◌+◌, ◌*◌, ◌≤◌, ◌<◌, zero-le}
 use native.Mathlib.Omega.{arith}
 use lib.Dec.{eqb}
@@ -8,9 +9,11 @@ use borrow.Author.Tests.{lt-ltb, le-ltb, le-leb, lt-leb, eq-eqb, ne_eqb}
 use Rattle.walk.specs.Fold.{sum}
 use Rattle.walk.proofs.Bools.{holds}
 use Rattle.walk.proofs.Loop.{Summing, sum_start, sum_pass, sum_ends}
+use Rattle.model.specs.declared.answers.Verdict.{Verdict}
 use Rattle.model.specs.declared.answers.Verdict.TheVariants.{Refused}
 use Rattle.model.specs.Tables.{destination_at, weight_at}
-use Rattle.model.specs.Answers.{pass, then, tried, require}
+use Rattle.model.specs.Answers.{pass, then, tried, each, require}
+use Rattle.model.specs.Checked.{accepts}
 use Rattle.model.specs.Refusals.{branch_over, total_over, row_over}
 use Rattle.model.proofs.Tried.{Trying, try_start, try_pass, try_stop, try_end, right_require, wrong_require}
 use Rattle.rows.specs.Fitting.{Within}
@@ -85,3 +88,12 @@ module _ {d n : ℕ} {destinations weights : List ℕ} {a lo hi total j : ℕ} (
       sym (right_require (eqb (sum (weight_at weights) lo hi) d) 11 a
       (holds (eq-eqb (sum (weight_at weights) lo hi) d (sym (sum_ends w.summing h) ∙ q))))
       ∙ try_end w.trying h
+
+-- a walk whose test at j does not pass answers what that test says
+pub stop_here : (test : ℕ → Verdict) (j hi : ℕ) (v : Verdict) → j < hi → accepts (test j) ≡ false → each test j hi v ≡ test j
+stop_here test j hi v h e = sym (try_stop (try_start test j hi v (omega arith)) h e)
+
+-- a branch whose weight is above d is refused by 10
+pub heavy : (d n : ℕ) (destinations weights : List ℕ) (j : ℕ) → destination_at destinations j < n → 1 ≤ weight_at weights j → d < weight_at weights j
+    → branch_over d n destinations weights j ≡ Refused 10 j
+heavy d n destinations weights j l g h = high d n destinations weights j l g h

@@ -62,6 +62,7 @@ fn starts_test(number: u32, starts: &[u32], end: usize) -> Verdict
 }
 
 // 8: a target mark is 0 or 1.
+#[tactic(auto, using(crate::proofs::Marks::mark_stop))]
 fn marks_test(marks: &[u8]) -> Verdict
     requires { length marks.now < 2 ^ 32 }
     ensures { result ≡ marks_test marks.now }
@@ -80,6 +81,7 @@ fn marks_test(marks: &[u8]) -> Verdict
 }
 
 // 9 to 11: each destination of action a is a state, each weight is 1 to D, and the weights add up to D.
+#[tactic(auto, using(crate::proofs::Counting::stop_here, crate::proofs::Counting::heavy))]
 fn action_test(
     d: u32,
     n: usize,

@@ -7,7 +7,7 @@ use Prim.Native.Nat.{ℕ, zero, suc, ◌+◌, ◌*◌, ◌^◌, ◌≤◌, ◌<�
 use native.Mathlib.Nat.{mul-le-mul_right, pow-zero, pow-suc, zero-add}
 use native.Mathlib.Omega.{arith}
 use lib.ListN.{length}
-use Rattle.walk.specs.Fold.{sum, greatest, listed}
+use Rattle.walk.specs.Fold.{sum, listed}
 use Rattle.walk.proofs.Fold.{le_greatest, listed_at, listed_length}
 use Rattle.model.specs.declared.answers.Verdict.TheVariants.{Accepted}
 use Rattle.model.specs.declared.kinds.Kind.{Kind}

@@ -1,0 +1,13 @@
+-- `certfile::judge::version_right` meets its contract. Assumes nothing.
+use native.Mathlib.Omega.{arith}
+use Rattle.wire.specs.Blocks.{size}
+use Rattle.certfile.specs.File.{version_right}
+use Rattle.certfile.proofs.judge.version_right.Goals as goal
+
+pub byte-requires : goal.byte-requires
+unfolding size
+byte-requires c = omega arith
+
+pub returns : goal.returns
+unfolding version_right
+returns c = rw c.byte.ensures
