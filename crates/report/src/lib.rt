@@ -28,6 +28,7 @@ const ZERO: u8 = b'0';
 const BASE: u64 = 10;
 
 // Each of these puts bytes into the text from a place on, and answers the next place: the digits of a number, with no zero in front.
+#[tactic(auto, using(crate::proofs::Digits::decimal_one))]
 fn number(text: &mut [u8], at: usize, n: u64) -> usize
     requires { at + length (decimal n) ≤ length text.old }
     ensures { Put text.old text.new at result (decimal n) }

@@ -4,13 +4,11 @@ use mathlib.Core.List.{List, [], ◌∷◌}
 use Prim.Native.Nat.{ℕ, ◌<◌}
 use native.Mathlib.Omega.{arith}
 use lib.ListN.{length, set, length-set}
-use borrow.Author.Rules.{rules}
 use Rattle.certfile.specs.declared.Header.{Header}
 use Rattle.certfile.specs.declared.Outcome.{Outcome}
 use Rattle.certfile.specs.declared.Outcome.TheVariants.{Read, Refused}
 use Rattle.results.specs.Lists.{header_after}
-use Rattle.results.proofs.put_header.Statement.{statement}
-use Rattle.results.proofs.put_header.Tie as tie
+use Rattle.results.proofs.put_header.Goals as goal
 
 six : (xs : List ℕ) (a b c d e f : ℕ) → length xs ≡ 6 → set (set (set (set (set (set xs 0 a) 1 b) 2 c) 3 d) 4 e) 5 f ≡ a ∷ b ∷ c ∷ d ∷ e ∷ f ∷ []
 six [] a b c d e f l = absurd (omega arith)
@@ -43,15 +41,8 @@ when-refused : (o : Outcome) (xs : List ℕ) (k p : ℕ) → o ≡ Refused k p �
 unfolding header_after
 when-refused o xs k p e = sym (ap (λ (x : Outcome). header_after x xs) e)
 
-returns : tie.Need-returns
-returns c = when-refused _ _ _ _ c.enum_told.given.1
+pub returns-in_default : goal.returns-in_default
+returns-in_default c = when-refused _ _ _ _ c.in_default.is
 
-returns-2 : tie.Need-returns-2
-returns-2 c = when-read _ _ _ c.before.o.given.1 c.before.before.before.requires
-
-pub put-header-spec : {M : Type 1} → statement M
-put-header-spec =
-    tie.close
-    (tie.spec (λ c. search rules) (λ c. search rules) returns (λ c. search rules) (λ c. search rules) (λ c. search rules) (λ c. search rules)
-    (λ c. fifth c.before.before.before.args.header.now c.before.o.given.0.0 c.before.before.before.requires)
-    (λ c. sixth c.before.before.before.args.header.now c.before.o.given.0.0 c.before.before.before.requires) (λ c. search rules) returns-2)
+pub returns : goal.returns
+returns c = when-read _ _ _ c.in-Read.is c.requires
