@@ -6,15 +6,18 @@ use std::io;
 use std::os::unix::fs::MetadataExt;
 use std::path::{Path, PathBuf};
 
-/// What the program is made of, below the folder of the repository.
-const SOURCES: [&str; 6] = [
-    "crates",
+/// What the program is made of, below the folder of the repository, beside the crates.
+const SOURCES: [&str; 5] = [
     "crates.txt",
     "native",
     "cli/Cargo.toml",
     "cli/build.rs",
     "cli/src",
 ];
+
+/// What is read of a crate, as far as it has it. Beside these stands what the toolchain makes of it, and the crate's folder
+/// changes with that.
+const PARTS: [&str; 3] = ["src", "specs", "proofs"];
 
 /// Seconds and nanoseconds.
 type Time = (i64, i64);
@@ -27,6 +30,7 @@ pub fn outdated() -> bool {
     SOURCES
         .iter()
         .any(|source| changed(&root.join(source), built).unwrap_or(true))
+        || changed_crate(&root.join("crates"), built).unwrap_or(true)
 }
 
 /// The repository in whose target/native/PROCESSOR/ the program stands, and the time at which its build began. A program
@@ -40,6 +44,19 @@ fn home() -> Option<(PathBuf, Time)> {
     }
     let root = native.parent()?.parent()?;
     Some((root.to_path_buf(), (built.mtime(), built.mtime_nsec())))
+}
+
+/// Whether a part of a crate in the folder has changed.
+fn changed_crate(crates: &Path, since: Time) -> io::Result<bool> {
+    for entry in fs::read_dir(crates)? {
+        let folder = entry?.path();
+        for part in PARTS.map(|part| folder.join(part)) {
+            if part.exists() && changed(&part, since)? {
+                return Ok(true);
+            }
+        }
+    }
+    Ok(false)
 }
 
 fn changed(path: &Path, since: Time) -> io::Result<bool> {
@@ -115,5 +132,19 @@ mod tests {
     #[test]
     fn a_source_that_is_gone_is_an_error() {
         assert!(changed(Path::new("no/such/source"), (0, 0)).is_err());
+        assert!(changed_crate(Path::new("no/such/folder"), (0, 0)).is_err());
+    }
+
+    #[test]
+    fn what_is_made_of_a_crate_is_no_source() {
+        let (crates, since) = folder("crates");
+        let made = crates.join("inner/out");
+        fs::create_dir(&made).expect("a folder can be made");
+        fs::write(made.join("library"), "made").expect("a file can be written");
+        let before = changed_crate(&crates, since).expect("the folder can be read");
+        fs::create_dir(crates.join("inner/specs")).expect("a folder can be made");
+        let after = changed_crate(&crates, since).expect("the folder can be read");
+        fs::remove_dir_all(crates).expect("the folder can be removed");
+        assert!(!before && after);
     }
 }
