@@ -207,7 +207,7 @@ pub fn answer_within(
 
 // Puts what the check program prints for a file at the beginning of the text, and answers its length.
 pub fn answer(file: &[u8], text: &mut [u8]) -> usize
-    requires* { do ⌜ (← ⟦Room::TEXT⟧) ≤ length text.old ⌝ }
+    requires { Room.TEXT ≤ length text.old }
     ensures { Shows (printed_of file.now) result text.old text.new }
 {
     let mut marks = [0u8; Room::STATES];
