@@ -10,11 +10,6 @@ use Rattle.program.proofs.Cut.{cuts_read, long_read, still_fits, still_cut, firs
 use Rattle.program.proofs.Taken.{too_long, not_too_long, printed_read, printed_refused}
 use Rattle.program.proofs.answer_within.Goals as goal
 
-abbrev before : goal.After-choice_count-chosen → Tables
-before c =
-    let a = c.args in
-    tables a.marks.now a.action_starts.now a.branch_starts.now a.destinations.now a.weights.now a.costs.now a.claims.now a.ranks.now
-
 abbrev after : goal.After-choice_count-chosen → Tables
 after c =
     let n = c.read-outcome.new in
@@ -23,7 +18,7 @@ after c =
 all : (c : goal.After-choice_count-chosen) → Cuts c.counts_of-count.result (after c)
 all c =
     let k = c.read-outcome.auto in
-    cuts_read _ _ (before c) (after c) c.read-outcome.ensures
+    cuts_read _ _ _ (after c) c.read-outcome.ensures
     (lengths_kept _ (after c) k.marks k.action_starts k.branch_starts k.destinations k.weights k.costs k.claims k.ranks)
     _ c.in-Read.is _ c.counts_of-count.ensures.counts
 
@@ -82,99 +77,57 @@ slice_bounds-check-end-in-Read-15 c = (all c).ranks
 
 pub slice_bounds-check-end-in-Read-16 : goal.slice_bounds-check-end-in-Read-16
 slice_bounds-check-end-in-Read-16 c =
-    let a = c.args in
-    let before =
-    tables a.marks.now a.action_starts.now a.branch_starts.now a.destinations.now a.weights.now a.costs.now a.claims.now a.ranks.now
-    in
     let n = c.read-outcome.new in
     let after = tables n.marks n.action_starts n.branch_starts n.destinations n.weights n.costs n.claims n.ranks in
     let k = c.read-outcome.auto in
-    let same = lengths_kept before after k.marks k.action_starts k.branch_starts k.destinations k.weights k.costs k.claims k.ranks in
-    let long =
-    long_read _ _ before after c.read-outcome.ensures same _ c.in-Read.is _ c.counts_of-count.ensures.counts _ _ _ c.choice_count-chosen.ensures
-    c.requires
-    in
+    let same = lengths_kept _ after k.marks k.action_starts k.branch_starts k.destinations k.weights k.costs k.claims k.ranks in
+    let long = long_read _ _ _ after c.read-outcome.ensures same _ c.in-Read.is _ c.counts_of-count.ensures.counts _ _ _ c.choice_count-chosen.ensures c.requires in
     long.choices
 
 pub slice_bounds-check-end-in-Read-17 : goal.slice_bounds-check-end-in-Read-17
 slice_bounds-check-end-in-Read-17 c =
-    let a = c.args in
-    let before =
-    tables a.marks.now a.action_starts.now a.branch_starts.now a.destinations.now a.weights.now a.costs.now a.claims.now a.ranks.now
-    in
     let n = c.read-outcome.new in
     let after = tables n.marks n.action_starts n.branch_starts n.destinations n.weights n.costs n.claims n.ranks in
     let k = c.read-outcome.auto in
-    let same = lengths_kept before after k.marks k.action_starts k.branch_starts k.destinations k.weights k.costs k.claims k.ranks in
-    let long =
-    long_read _ _ before after c.read-outcome.ensures same _ c.in-Read.is _ c.counts_of-count.ensures.counts _ _ _ c.choice_count-chosen.ensures
-    c.requires
-    in
+    let same = lengths_kept _ after k.marks k.action_starts k.branch_starts k.destinations k.weights k.costs k.claims k.ranks in
+    let long = long_read _ _ _ after c.read-outcome.ensures same _ c.in-Read.is _ c.counts_of-count.ensures.counts _ _ _ c.choice_count-chosen.ensures c.requires in
     sym (length-take-le _ _ long.choices)
 
 pub slice_bounds-tell-end-in-Read : goal.slice_bounds-tell-end-in-Read
 slice_bounds-tell-end-in-Read c =
-    let a = c.args in
-    let before =
-    tables a.marks.now a.action_starts.now a.branch_starts.now a.destinations.now a.weights.now a.costs.now a.claims.now a.ranks.now
-    in
     let n = c.read-outcome.new in
     let after = tables n.marks n.action_starts n.branch_starts n.destinations n.weights n.costs n.claims n.ranks in
     let k = c.read-outcome.auto in
-    let same = lengths_kept before after k.marks k.action_starts k.branch_starts k.destinations k.weights k.costs k.claims k.ranks in
-    let long =
-    long_read _ _ before after c.read-outcome.ensures same _ c.in-Read.is _ c.counts_of-count.ensures.counts _ _ _ c.choice_count-chosen.ensures
-    c.requires
-    in
+    let same = lengths_kept _ after k.marks k.action_starts k.branch_starts k.destinations k.weights k.costs k.claims k.ranks in
+    let long = long_read _ _ _ after c.read-outcome.ensures same _ c.in-Read.is _ c.counts_of-count.ensures.counts _ _ _ c.choice_count-chosen.ensures c.requires in
     still_fits _ _ c.check-answer.new.choices long.choices c.check-answer.auto.choices
 
 pub slice_bounds-tell-end-in-Read-2 : goal.slice_bounds-tell-end-in-Read-2
 slice_bounds-tell-end-in-Read-2 c =
-    let a = c.args in
-    let before =
-    tables a.marks.now a.action_starts.now a.branch_starts.now a.destinations.now a.weights.now a.costs.now a.claims.now a.ranks.now
-    in
     let n = c.read-outcome.new in
     let after = tables n.marks n.action_starts n.branch_starts n.destinations n.weights n.costs n.claims n.ranks in
     let k = c.read-outcome.auto in
-    let same = lengths_kept before after k.marks k.action_starts k.branch_starts k.destinations k.weights k.costs k.claims k.ranks in
-    let long =
-    long_read _ _ before after c.read-outcome.ensures same _ c.in-Read.is _ c.counts_of-count.ensures.counts _ _ _ c.choice_count-chosen.ensures
-    c.requires
-    in
+    let same = lengths_kept _ after k.marks k.action_starts k.branch_starts k.destinations k.weights k.costs k.claims k.ranks in
+    let long = long_read _ _ _ after c.read-outcome.ensures same _ c.in-Read.is _ c.counts_of-count.ensures.counts _ _ _ c.choice_count-chosen.ensures c.requires in
     still_cut _ _ c.check-answer.new.choices long.choices c.check-answer.auto.choices
 
 pub tell-requires-in-Read : goal.tell-requires-in-Read
 tell-requires-in-Read c =
-    let a = c.args in
-    let before =
-    tables a.marks.now a.action_starts.now a.branch_starts.now a.destinations.now a.weights.now a.costs.now a.claims.now a.ranks.now
-    in
     let n = c.read-outcome.new in
     let after = tables n.marks n.action_starts n.branch_starts n.destinations n.weights n.costs n.claims n.ranks in
     let k = c.read-outcome.auto in
-    let same = lengths_kept before after k.marks k.action_starts k.branch_starts k.destinations k.weights k.costs k.claims k.ranks in
-    let long =
-    long_read _ _ before after c.read-outcome.ensures same _ c.in-Read.is _ c.counts_of-count.ensures.counts _ _ _ c.choice_count-chosen.ensures
-    c.requires
-    in
+    let same = lengths_kept _ after k.marks k.action_starts k.branch_starts k.destinations k.weights k.costs k.claims k.ranks in
+    let long = long_read _ _ _ after c.read-outcome.ensures same _ c.in-Read.is _ c.counts_of-count.ensures.counts _ _ _ c.choice_count-chosen.ensures c.requires in
     omega (arith, still_cut _ _ c.check-answer.new.choices long.choices c.check-answer.auto.choices, long.printed)
 
 pub returns-in-Read : goal.returns-in-Read
 returns-in-Read c =
-    let a = c.args in
-    let before =
-    tables a.marks.now a.action_starts.now a.branch_starts.now a.destinations.now a.weights.now a.costs.now a.claims.now a.ranks.now
-    in
     let n = c.read-outcome.new in
     let after = tables n.marks n.action_starts n.branch_starts n.destinations n.weights n.costs n.claims n.ranks in
     let w = not_too_long _ _ _ after _ c.if-most-file.false c.read-outcome.ensures in
     let k = c.read-outcome.auto in
-    let same = lengths_kept before after k.marks k.action_starts k.branch_starts k.destinations k.weights k.costs k.claims k.ranks in
-    let long =
-    long_read _ _ before after c.read-outcome.ensures same _ c.in-Read.is _ c.counts_of-count.ensures.counts _ _ _ c.choice_count-chosen.ensures
-    c.requires
-    in
+    let same = lengths_kept _ after k.marks k.action_starts k.branch_starts k.destinations k.weights k.costs k.claims k.ranks in
+    let long = long_read _ _ _ after c.read-outcome.ensures same _ c.in-Read.is _ c.counts_of-count.ensures.counts _ _ _ c.choice_count-chosen.ensures c.requires in
     let t = c.tell-in-Read.ensures in
     printed_read _ _ _ _ after w c.read-outcome.ensures _ c.in-Read.is _ c.check-answer.new.choices _ _ _ _ _ _
     c.counts_of-count.ensures.counts c.choice_count-chosen.ensures c.check-answer.ensures

@@ -10,13 +10,11 @@ returns-then-file-gt-BYTES c = number_refused _ _ _ _ _ (too_long _ _ _ c.if-fil
 
 pub refusal-requires : goal.refusal-requires
 refusal-requires c =
-    let a = c.args in
     let n = c.read-outcome.new in
     let k = c.read-outcome.auto in
-    let t = tables a.marks.now a.action_starts.now a.branch_starts.now a.destinations.now a.weights.now a.costs.now a.claims.now a.ranks.now in
     let u = tables n.marks n.action_starts n.branch_starts n.destinations n.weights n.costs n.claims n.ranks in
-    read_roomy _ _ t u c.read-outcome.ensures _ c.in-Read.is
-    (lengths_kept t u k.marks k.action_starts k.branch_starts k.destinations k.weights k.costs k.claims k.ranks)
+    read_roomy _ _ _ u c.read-outcome.ensures _ c.in-Read.is
+    (lengths_kept _ u k.marks k.action_starts k.branch_starts k.destinations k.weights k.costs k.claims k.ranks)
 
 pub returns-in-Read : goal.returns-in-Read
 returns-in-Read c =
