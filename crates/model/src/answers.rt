@@ -54,6 +54,7 @@ impl Verdict {
     }
 
     // What this says, unless it accepts: then refused with this number at this place, unless it is right.
+    #[tactic(auto, unfolding(crate::specs::Answers::then, crate::specs::Answers::require))]
     pub fn require(self, right: bool, number: u32, place: u32) -> Verdict
         ensures { result ≡ then self (require right number place) }
     {
