@@ -16,6 +16,7 @@ use program::Whole;
 use results::{AnswerList, HeaderList, ResultList};
 
 // Judges the claim that the lent tables make, as checker::check does, and answers its number.
+#[tactic(auto, using(crate::proofs::Judged::shut), unfolding(model::specs::Answers::require))]
 #[unsafe(no_mangle)]
 pub extern "C" fn vartrymoy_check(
     kind: u32,

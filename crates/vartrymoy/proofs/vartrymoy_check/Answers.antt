@@ -1,49 +1,7 @@
--- `vartrymoy::vartrymoy_check` meets its contract, by the length of the answer list. Assumes nothing.
-use mathlib.Core.Path.{◌≡◌, ap, ◌∙◌}
-use mathlib.Core.List.{List}
-use Prim.Native.Nat.{ℕ}
-use borrow.Author.Tests.{eq-eqb, ne_eqb}
-use lib.ListN.{length}
-use Rattle.model.specs.declared.answers.Answer.{Answer}
-use Rattle.model.specs.declared.answers.Verdict.{Verdict}
-use Rattle.model.specs.declared.answers.Verdict.TheVariants.{Refused}
-use Rattle.model.specs.Answers.{number, then, require}
-use Rattle.model.specs.Tables.{Model, Claim}
-use Rattle.model.specs.Checked.{refusal_of}
-use Rattle.checker.specs.Promise.{Checked}
-use Rattle.results.specs.Lists.{numbers_of}
-use Rattle.vartrymoy.specs.Exported.{number_of, CheckedInto}
+-- What `checker::check` promises goes into the list, which has the length that is asked.
+use Rattle.std.proofs.Common.{rules}
+use Rattle.vartrymoy.proofs.Judged.{answered}
 use Rattle.vartrymoy.proofs.vartrymoy_check.Goals as goal
 
-module _ (kind : ℕ) (t : Model) (u : Claim) (before answer : List ℕ) where
-  shut : (length answer ≡ 4 → ⊥) → (v : Verdict) (r : ℕ) → v ≡ refusal_of kind t u (length before) → r ≡ number (then v (Refused 5 0))
-      → CheckedInto kind t u before answer r before answer
-  unfolding number_of
-  shut n v r e f =
-      record {
-        result = f ∙ rw (e, ne_eqb (length answer) 4 n);
-        choices = rw (ne_eqb (length answer) 4 n);
-        answer = rw (ne_eqb (length answer) 4 n);
-        sound = λ l. absurd (n l);
-      }
-
-  answered : length answer ≡ 4 → (x : Answer) (r : ℕ) (after written : List ℕ) → Checked kind t u before x after → r ≡ number x.verdict
-      → written ≡ numbers_of x
-      → CheckedInto kind t u before answer r after written
-  unfolding number_of
-  answered l x r after written w e f =
-      record {
-        result = rw (eq-eqb (length answer) 4 l) (e ∙ ap (λ (y : Answer). number y.verdict) w.answer);
-        choices = rw (eq-eqb (length answer) 4 l) w.choices;
-        answer = rw (eq-eqb (length answer) 4 l) (f ∙ ap numbers_of w.answer);
-        sound = λ q R h. w.sound R (ap (λ (y : Answer). y.verdict) w.answer ∙ h);
-      }
-
-pub returns-then-answer-ne-COUNT : goal.returns-then-answer-ne-COUNT
-unfolding require
-returns-then-answer-ne-COUNT c = shut _ _ _ _ _ c.if-answer-ne-COUNT.true _ _ c.refuse-refusal.ensures
-    (c.number.ensures ∙ ap number c.require.ensures)
-
 pub returns : goal.returns
-returns c = answered _ _ _ _ _ c.if-answer-ne-COUNT.false _ _ _ _
-    c.check.ensures c.put.ensures.number c.put.ensures.answer
+returns c = answered _ _ _ _ _ (search rules) _ _ _ _ c.check.ensures c.put.ensures.number c.put.ensures.answer
