@@ -131,6 +131,7 @@ pub fn preview(
 }
 
 // Writes the file that the lent tables make into a lent buffer and answers its length, or the first refusal, which writes nothing.
+#[tactic(auto, using(crate::proofs::Judged::left))]
 pub fn write(
     kind: u32,
     d: u32,
