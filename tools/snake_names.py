@@ -3,7 +3,7 @@
 
 usage: python3 tools/snake_names.py        at the top of the checkout, once, right after the toolchain's port.py
 
-It goes by text. Names that specs/*.antt and proofs/*.antt declare are turned: starTRight to star_t_right, and a dash to an
+It goes by text. Names that specs/*.antt and proofs/*.antt declare are turned: startsRight to starts_right, and a dash to an
 underscore. A name that would then fall together with another keeps its dashes (its parts still turn). Names of src/, of
 arguments and of generated goals are left alone. It prints each row of the table that it used.
 """
@@ -19,7 +19,7 @@ CAMEL = re.compile(r"(?<=[a-z0-9])([A-Z]+)(?=[a-z0-9]|$|-)")
 
 
 def snake(name):
-    """starts-rightOf -> starts_right_of; a name that begins with a capital, a type, stays."""
+    """startsRightOf -> starts_right_of; a name that begins with a capital, a type, stays."""
     if not re.match(r"[a-z]", name):
         return name
     turned = CAMEL.sub(lambda m: "_" + m[1].lower(), name)
