@@ -35,7 +35,8 @@ sure = arrival 1 (1 ∷ 1 ∷ []) (1 ∷ 0 ∷ [])
 
 pub accepted : (answer_of 2 toss sure unlent).verdict ≡ Accepted 1
 unfolding answer_of size_tests weight_scale_test claim_scale_test states_test model_lengths claim_lengths length_test
-    row_tests starts_test start_right marks_test walk_test action_test range_tests costs_test claims_test ranks_test condition21 condition22 condition23 condition24
+    row_tests starts_test start_right marks_test walk_test action_test range_tests costs_test claims_test ranks_test
+    condition21 condition22 condition23 condition24
 accepted = refl
 
 -- so every strategy misses at most (1/2)^m after m steps

@@ -11,5 +11,6 @@ use Rattle.cases.specs.Worked.{Case, proved}
 pub right : (map (λ (x : Case). (answer_of x.kind x.model x.claim x.choices).verdict) proved ≡ map (λ (x : Case). x.answer) proved)
     × (map (λ (x : Case). choices_of x.kind x.model x.claim x.choices) proved ≡ map (λ (x : Case). x.chosen) proved)
 unfolding choices_of size_tests weight_scale_test claim_scale_test states_test model_lengths claim_lengths length_test
-    row_tests starts_test start_right marks_test walk_test action_test range_tests costs_test claims_test ranks_test condition21 condition22 condition23 condition24
+    row_tests starts_test start_right marks_test walk_test action_test range_tests costs_test claims_test ranks_test
+    condition21 condition22 condition23 condition24
 right = (refl, refl)

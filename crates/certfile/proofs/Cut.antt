@@ -11,8 +11,11 @@ use Rattle.wire.specs.Blocks.{block}
 use Rattle.certfile.specs.declared.Header.{Header}
 use Rattle.certfile.specs.File.{announced}
 use Rattle.certfile.specs.Layout.{counts_of}
-use Rattle.certfile.specs.Tables.{Tables, lent, Roomy}
+use Rattle.certfile.specs.declared.Outcome.{Outcome}
+use Rattle.certfile.specs.declared.Outcome.TheVariants.{Read}
+use Rattle.certfile.specs.Tables.{Tables, lent, Roomy, ReadInto}
 use Rattle.certfile.specs.Contents.{cut, model_cut, claim_cut}
+use Rattle.certfile.proofs.Passed.{lengths_kept, read_roomy}
 
 -- each part that is cut has the length that is asked
 pub record Cuts (count : Lengths) (t : Tables) : Type 0 where
@@ -38,6 +41,20 @@ cuts h count t q e =
       claims = sym (length-take-le _ t.claims (e 6));
       ranks = sym (length-take-le _ t.ranks (e 7));
     })
+
+-- tables that a file was read into and that kept their lengths have each part that its header counts
+pub cuts_read : (o : Outcome) (file : List ℕ) (t u : Tables) → ReadInto o file t u
+    → length u.marks ≡ length t.marks
+    → length u.action_starts ≡ length t.action_starts
+    → length u.branch_starts ≡ length t.branch_starts
+    → length u.destinations ≡ length t.destinations
+    → length u.weights ≡ length t.weights
+    → length u.costs ≡ length t.costs
+    → length u.claims ≡ length t.claims
+    → length u.ranks ≡ length t.ranks
+    → (h : Header) → o ≡ Read h → (count : Lengths) → count ≡ counts_of h → Cuts count u
+cuts_read o file t u w k₁ k₂ k₃ k₄ k₅ k₆ k₇ k₈ h e count q =
+    cuts h count u q (read_roomy o file t u w h e (lengths_kept t u k₁ k₂ k₃ k₄ k₅ k₆ k₇ k₈))
 
 -- what has the length that is asked is cut from a list that is no shorter
 pub reaches : (n : ℕ) (xs : List ℕ) → n ≡ length (take n xs) → n ≤ length xs

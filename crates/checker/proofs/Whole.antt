@@ -186,7 +186,8 @@ module _ (kind : ℕ) (t : Model) (u : Claim) (before after : List ℕ) where
   unfolding answer_of
   answers v p = λ j. record { kind = kind; verdict = p j }
 
-  chooses : (v : Verdict) → v ≡ then (kind_test kind) (verdict_of (kind_of kind) t u before) → chosen_of (kind_of kind) t u before v ≡ choices_of kind t u before
+  chooses : (v : Verdict) → v ≡ then (kind_test kind) (verdict_of (kind_of kind) t u before)
+      → chosen_of (kind_of kind) t u before v ≡ choices_of kind t u before
   unfolding choices_of answer_of
   chooses v p = ap (chosen_of (kind_of kind) t u before) p
 

@@ -14,8 +14,8 @@ use Rattle.model.specs.Kinds.{is_cost, is_some}
 use Rattle.model.specs.Tables.{Model, Claim, states, branches, target, first_action, first_branch, destination, weight, cost, claim, rank}
 use Rattle.model.specs.WellFormed.{Row}
 use Rattle.model.specs.Answers.{then, tried}
-use Rattle.model.specs.Conditions.{weighted, expected, suits, falls, ask, ask_actions, condition21, condition22, condition23, fall_asked, asks_fall, lowest_action}
-use Rattle.model.specs.Conditions.{condition24, judged}
+use Rattle.model.specs.Conditions.{weighted, expected, suits, falls, ask, ask_actions, fall_asked, asks_fall, lowest_action}
+use Rattle.model.specs.Conditions.{condition21, condition22, condition23, condition24, judged}
 use Rattle.model.specs.Checked.{choice}
 use Rattle.model.proofs.Rising.{start_below}
 use Rattle.actions.specs.declared.State.{State}

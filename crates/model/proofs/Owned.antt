@@ -42,7 +42,10 @@ module _ (long : ℕ) (starts : List ℕ) (a : ℕ) where
 
       by : (p q : Bool) → ltb (get_or starts a 0) (get_or starts (a + 1) 0) ≡ q → (r : Bool) → leb (get_or starts (a + 1) 0) long ≡ r →
           ((S p q r).from ≤ (S p q r).to) × ((S p q r).to ≤ long)
-      by true true e true f = (omega (arith, ltb-true (get_or starts a 0) (get_or starts (a + 1) 0) e), omega (arith, leb-true (get_or starts (a + 1) 0) long f))
+      by true true e true f = (
+        omega (arith, ltb-true (get_or starts a 0) (get_or starts (a + 1) 0) e),
+        omega (arith, leb-true (get_or starts (a + 1) 0) long f),
+      )
       by true true e false f = (le_refl 0, zero-le)
       by true false e r f = (le_refl 0, zero-le)
       by false q e r f = (le_refl 0, zero-le)

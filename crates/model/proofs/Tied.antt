@@ -122,12 +122,14 @@ module _ (kind : ℕ) (t : Model) (u : Claim) (choices : List ℕ) where
       (record { place = s; low = zero-le; high = b.state; said = b.broken; before = λ i z l. rw (of_met k t u i (b.before i l)) tt })
 
   -- refused exactly when that is what the first test that fails says, the kind's first
-  pub refused : (x p : ℕ) → (answer_of kind t u choices).verdict ≡ Refused x p → First (kind_test kind ∷ tests (kind_of kind) t u (length choices)) (Refused x p)
+  pub refused : (x p : ℕ) → (answer_of kind t u choices).verdict ≡ Refused x p
+      → First (kind_test kind ∷ tests (kind_of kind) t u (length choices)) (Refused x p)
   unfolding answer_of verdict_of tried
   refused x p e = ⊎_elim (λ f. f) (λ q. absurd (never_refused x p q.1))
       (tried_first (kind_test kind ∷ tests (kind_of kind) t u (length choices)) (conditions (kind_of kind) t u) (Refused x p) refl e)
 
-  pub of_refused : (x p : ℕ) → First (kind_test kind ∷ tests (kind_of kind) t u (length choices)) (Refused x p) → (answer_of kind t u choices).verdict ≡ Refused x p
+  pub of_refused : (x p : ℕ) → First (kind_test kind ∷ tests (kind_of kind) t u (length choices)) (Refused x p)
+      → (answer_of kind t u choices).verdict ≡ Refused x p
   unfolding answer_of verdict_of tried
   of_refused x p f = first_tried (kind_test kind ∷ tests (kind_of kind) t u (length choices)) (conditions (kind_of kind) t u) (Refused x p) refl f
 

@@ -4,7 +4,8 @@ use Rattle.model.specs.declared.stretch.Stretch.{Stretch}
 
 -- there is such an action, and its two starts rise within a table of this length
 unfoldable pub rises : ℕ → List ℕ → ℕ → Bool
-rises long starts a = ltb (a + 1) (length starts) && (ltb (get_or starts a 0) (get_or starts (a + 1) 0) && leb (get_or starts (a + 1) 0) long)
+rises long starts a =
+    ltb (a + 1) (length starts) && (ltb (get_or starts a 0) (get_or starts (a + 1) 0) && leb (get_or starts (a + 1) 0) long)
 
 -- from the one start up to the other, or the empty stretch at the beginning
 unfoldable pub stretch_of : ℕ → List ℕ → ℕ → Stretch

@@ -3,7 +3,7 @@ use mathlib.Core.Path.{◌≡◌, sym, ap, ◌∙◌}
 use mathlib.Core.List.{List, ◌++◌}
 use Prim.Native.Nat.{ℕ, ◌≤◌}
 use native.Mathlib.Omega.{arith}
-use lib.ListN.{length, take, drop, get_or}
+use lib.ListN.{length, take, drop}
 use lib.Seq.{length-take-le, length_front, take_at}
 use Rattle.model.specs.declared.limits.Lengths.{Lengths}
 use Rattle.model.specs.Refusals.{choice_count}
@@ -14,12 +14,9 @@ use Rattle.model.specs.Checked.{refusal_of}
 use Rattle.model.specs.declared.answers.Verdict.{Verdict}
 use Rattle.certfile.specs.declared.Header.{Header}
 use Rattle.certfile.specs.Layout.{counts_of}
-use Rattle.certfile.specs.declared.Outcome.{Outcome}
-use Rattle.certfile.specs.declared.Outcome.TheVariants.{Read}
-use Rattle.certfile.specs.Tables.{Tables, lent, ReadInto}
+use Rattle.certfile.specs.Tables.{Tables}
 use Rattle.certfile.specs.Contents.{model_cut, claim_cut}
-use Rattle.certfile.proofs.Passed.{read_roomy}
-use Rattle.certfile.proofs.Cut.{Cuts, cuts, reaches, states_counted, model_taken, claim_taken, model-cut, claim-cut}
+use Rattle.certfile.proofs.Cut.{Cuts, reaches, states_counted, model_taken, claim_taken, model-cut, claim-cut}
 use Rattle.program.specs.Printed.{chosen_in}
 use Rattle.program.specs.Shows.{Long}
 
@@ -30,17 +27,11 @@ long_enough kind states chosen most list text f fit long =
     let few : chosen ≤ most = omega (arith, f, entries_most (kind_of kind).choices states) in
     record { choices = omega (arith, long.choices); printed = omega (arith, long.printed) }
 
--- tables that a file was read into are cut as its header counts them, and a list and a text with room for all states have room for the choices
-module _ (o : Outcome) (file : List ℕ) (t u : Tables) (w : ReadInto o file t u) (kept : lent u ≡ lent t) (h : Header) (e : o ≡ Read h) (count : Lengths)
-    (q : count ≡ counts_of h) where
-  pub cuts_read : Cuts count u
-  cuts_read = cuts h count u q (read_roomy o file t u w h e kept)
-
-  pub long_read : (chosen : ℕ) (list text : List ℕ) → chosen ≡ choice_count h.kind count.marks → Long (length t.marks) list text
-      → Long chosen list text
-  long_read chosen list text f long =
-      let same : length u.marks ≡ length t.marks = ap (λ (l : List ℕ). get_or l 0 0) kept in
-      long_enough h.kind count.marks chosen (length t.marks) list text f (omega (arith, reaches count.marks u.marks cuts_read.marks, same)) long
+-- so too where the room is that of the marks of tables that are cut
+pub long_cut : {count : Lengths} {u : Tables} → Cuts count u → (kind chosen most : ℕ) (list text : List ℕ) → length u.marks ≡ most
+    → chosen ≡ choice_count kind count.marks → Long most list text → Long chosen list text
+long_cut {count = count} {u = u} all kind chosen most list text same f long =
+    long_enough kind count.marks chosen most list text f (omega (arith, reaches count.marks u.marks all.marks, same)) long
 
 -- so many choices are those that the header counts
 pub chosen_counted : (h : Header) (count : Lengths) (chosen : ℕ) → count ≡ counts_of h → chosen ≡ choice_count h.kind count.marks → chosen ≡ chosen_in h

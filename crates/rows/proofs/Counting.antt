@@ -45,7 +45,7 @@ module _ (d n : ℕ) (destinations weights : List ℕ) where
       unfolding tried require then
       low h = rw (lt-ltb (destination_at destinations j) n l, lt-leb 1 (weight_at weights j) h)
 
-      high : 1 ≤ weight_at weights j → d < weight_at weights j → branch_over d n destinations weights j ≡ Refused 10 j
+      pub high : 1 ≤ weight_at weights j → d < weight_at weights j → branch_over d n destinations weights j ≡ Refused 10 j
       unfolding tried require then
       high g h = rw (lt-ltb (destination_at destinations j) n l, le-leb 1 (weight_at weights j) g, lt-leb (weight_at weights j) d h)
 
@@ -92,8 +92,3 @@ module _ {d n : ℕ} {destinations weights : List ℕ} {a lo hi total j : ℕ} (
 -- a walk whose test at j does not pass answers what that test says
 pub stop_here : (test : ℕ → Verdict) (j hi : ℕ) (v : Verdict) → j < hi → accepts (test j) ≡ false → each test j hi v ≡ test j
 stop_here test j hi v h e = sym (try_stop (try_start test j hi v (omega arith)) h e)
-
--- a branch whose weight is above d is refused by 10
-pub heavy : (d n : ℕ) (destinations weights : List ℕ) (j : ℕ) → destination_at destinations j < n → 1 ≤ weight_at weights j → d < weight_at weights j
-    → branch_over d n destinations weights j ≡ Refused 10 j
-heavy d n destinations weights j l g h = high d n destinations weights j l g h

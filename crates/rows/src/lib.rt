@@ -81,7 +81,7 @@ fn marks_test(marks: &[u8]) -> Verdict
 }
 
 // 9 to 11: each destination of action a is a state, each weight is 1 to D, and the weights add up to D.
-#[tactic(auto, using(crate::proofs::Counting::stop_here, crate::proofs::Counting::heavy))]
+#[tactic(auto, using(crate::proofs::Counting::stop_here, crate::proofs::Counting::high))]
 fn action_test(
     d: u32,
     n: usize,

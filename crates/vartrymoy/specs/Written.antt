@@ -15,4 +15,5 @@ pub record FileWrittenInto
     : Type 0 where
   pub number : r ≡ written_or (cond (eqb (length result-before) 2) 0 5) (written_of kind t u (length before))
   pub result : result-after ≡ cond (eqb (length result-before) 2) (pair_of (written_of kind t u (length before))) result-before
-  pub buffer : after ≡ cond (eqb (length result-before) 2) (buffer_of (written_of kind t u (length before)) (file_of kind t u) before) before
+  pub buffer : after ≡
+      cond (eqb (length result-before) 2) (buffer_of (written_of kind t u (length before)) (file_of kind t u) before) before

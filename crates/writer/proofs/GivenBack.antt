@@ -22,7 +22,8 @@ use Rattle.wire.proofs.RoundTrip.{numbers_length, numbers_at, read_written}
 use Rattle.certfile.specs.declared.Outcome.{Outcome}
 use Rattle.certfile.specs.declared.Outcome.TheVariants.{Read}
 use Rattle.certfile.specs.declared.Header.{Header}
-use Rattle.certfile.specs.File.{header_blocks, header_of, announced, blocks, roomy, length_field_right, version_right, counts_right, length_right, outcome_of, table_of}
+use Rattle.certfile.specs.File.{header_blocks, header_of, announced, blocks, roomy, outcome_of, table_of}
+use Rattle.certfile.specs.File.{length_field_right, version_right, counts_right, length_right}
 use Rattle.certfile.specs.Layout.{table_place}
 use Rattle.certfile.specs.Tables.{Tables, lent, ReadInto}
 use Rattle.certfile.proofs.Passed.{of_passed}

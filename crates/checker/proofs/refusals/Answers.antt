@@ -24,7 +24,8 @@ returns-then-not-accepts-2 c =
     let t = model_of c.args.d c.args.marks.now c.args.action_starts.now c.args.branch_starts.now c.args.destinations.now c.args.weights.now in
     let u = claim_of c.args.c c.args.costs.now c.args.claims.now c.args.ranks.now in
     c.count-v.ensures
-    ∙ rows_stop _ t u _ (goes c.accepts.ensures (ap not c.if-not-accepts.false) c.sizes-v.ensures) (stops c.accepts-2.ensures (ap not c.if-not-accepts-2.true) c.count-v.ensures)
+    ∙ rows_stop _ t u _ (goes c.accepts.ensures (ap not c.if-not-accepts.false) c.sizes-v.ensures)
+    (stops c.accepts-2.ensures (ap not c.if-not-accepts-2.true) c.count-v.ensures)
 
 pub ranges-requires-clause-costs_len_bound : goal.ranges-requires-clause-costs_len_bound
 ranges-requires-clause-costs_len_bound c =

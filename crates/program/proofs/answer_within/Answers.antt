@@ -4,9 +4,8 @@ use mathlib.Core.Path.{refl, sym}
 use native.Mathlib.Omega.{arith}
 use lib.Seq.{length-take-le}
 use Rattle.certfile.specs.Tables.{Tables, tables}
-use Rattle.certfile.proofs.Cut.{Cuts, reaches}
-use Rattle.certfile.proofs.Passed.{lengths_kept}
-use Rattle.program.proofs.Cut.{cuts_read, long_read, still_fits, still_cut, first_entries}
+use Rattle.certfile.proofs.Cut.{Cuts, cuts_read, reaches}
+use Rattle.program.proofs.Cut.{long_cut, still_fits, still_cut, first_entries}
 use Rattle.program.proofs.Taken.{too_long, not_too_long, printed_read, printed_refused}
 use Rattle.program.proofs.answer_within.Goals as goal
 
@@ -18,8 +17,7 @@ after c =
 all : (c : goal.After-choice_count-chosen) → Cuts c.counts_of-count.result (after c)
 all c =
     let k = c.read-outcome.auto in
-    cuts_read _ _ _ (after c) c.read-outcome.ensures
-    (lengths_kept _ (after c) k.marks k.action_starts k.branch_starts k.destinations k.weights k.costs k.claims k.ranks)
+    cuts_read _ _ _ (after c) c.read-outcome.ensures k.marks k.action_starts k.branch_starts k.destinations k.weights k.costs k.claims k.ranks
     _ c.in-Read.is _ c.counts_of-count.ensures.counts
 
 pub returns-then-most-file : goal.returns-then-most-file
@@ -80,8 +78,11 @@ slice_bounds-check-end-in-Read-16 c =
     let n = c.read-outcome.new in
     let after = tables n.marks n.action_starts n.branch_starts n.destinations n.weights n.costs n.claims n.ranks in
     let k = c.read-outcome.auto in
-    let same = lengths_kept _ after k.marks k.action_starts k.branch_starts k.destinations k.weights k.costs k.claims k.ranks in
-    let long = long_read _ _ _ after c.read-outcome.ensures same _ c.in-Read.is _ c.counts_of-count.ensures.counts _ _ _ c.choice_count-chosen.ensures c.requires in
+    let all =
+    cuts_read _ _ _ after c.read-outcome.ensures k.marks k.action_starts k.branch_starts k.destinations k.weights k.costs k.claims k.ranks
+    _ c.in-Read.is _ c.counts_of-count.ensures.counts
+    in
+    let long = long_cut all _ _ _ _ _ k.marks c.choice_count-chosen.ensures c.requires in
     long.choices
 
 pub slice_bounds-check-end-in-Read-17 : goal.slice_bounds-check-end-in-Read-17
@@ -89,8 +90,11 @@ slice_bounds-check-end-in-Read-17 c =
     let n = c.read-outcome.new in
     let after = tables n.marks n.action_starts n.branch_starts n.destinations n.weights n.costs n.claims n.ranks in
     let k = c.read-outcome.auto in
-    let same = lengths_kept _ after k.marks k.action_starts k.branch_starts k.destinations k.weights k.costs k.claims k.ranks in
-    let long = long_read _ _ _ after c.read-outcome.ensures same _ c.in-Read.is _ c.counts_of-count.ensures.counts _ _ _ c.choice_count-chosen.ensures c.requires in
+    let all =
+    cuts_read _ _ _ after c.read-outcome.ensures k.marks k.action_starts k.branch_starts k.destinations k.weights k.costs k.claims k.ranks
+    _ c.in-Read.is _ c.counts_of-count.ensures.counts
+    in
+    let long = long_cut all _ _ _ _ _ k.marks c.choice_count-chosen.ensures c.requires in
     sym (length-take-le _ _ long.choices)
 
 pub slice_bounds-tell-end-in-Read : goal.slice_bounds-tell-end-in-Read
@@ -98,8 +102,11 @@ slice_bounds-tell-end-in-Read c =
     let n = c.read-outcome.new in
     let after = tables n.marks n.action_starts n.branch_starts n.destinations n.weights n.costs n.claims n.ranks in
     let k = c.read-outcome.auto in
-    let same = lengths_kept _ after k.marks k.action_starts k.branch_starts k.destinations k.weights k.costs k.claims k.ranks in
-    let long = long_read _ _ _ after c.read-outcome.ensures same _ c.in-Read.is _ c.counts_of-count.ensures.counts _ _ _ c.choice_count-chosen.ensures c.requires in
+    let all =
+    cuts_read _ _ _ after c.read-outcome.ensures k.marks k.action_starts k.branch_starts k.destinations k.weights k.costs k.claims k.ranks
+    _ c.in-Read.is _ c.counts_of-count.ensures.counts
+    in
+    let long = long_cut all _ _ _ _ _ k.marks c.choice_count-chosen.ensures c.requires in
     still_fits _ _ c.check-answer.new.choices long.choices c.check-answer.auto.choices
 
 pub slice_bounds-tell-end-in-Read-2 : goal.slice_bounds-tell-end-in-Read-2
@@ -107,8 +114,11 @@ slice_bounds-tell-end-in-Read-2 c =
     let n = c.read-outcome.new in
     let after = tables n.marks n.action_starts n.branch_starts n.destinations n.weights n.costs n.claims n.ranks in
     let k = c.read-outcome.auto in
-    let same = lengths_kept _ after k.marks k.action_starts k.branch_starts k.destinations k.weights k.costs k.claims k.ranks in
-    let long = long_read _ _ _ after c.read-outcome.ensures same _ c.in-Read.is _ c.counts_of-count.ensures.counts _ _ _ c.choice_count-chosen.ensures c.requires in
+    let all =
+    cuts_read _ _ _ after c.read-outcome.ensures k.marks k.action_starts k.branch_starts k.destinations k.weights k.costs k.claims k.ranks
+    _ c.in-Read.is _ c.counts_of-count.ensures.counts
+    in
+    let long = long_cut all _ _ _ _ _ k.marks c.choice_count-chosen.ensures c.requires in
     still_cut _ _ c.check-answer.new.choices long.choices c.check-answer.auto.choices
 
 pub tell-requires-in-Read : goal.tell-requires-in-Read
@@ -116,8 +126,11 @@ tell-requires-in-Read c =
     let n = c.read-outcome.new in
     let after = tables n.marks n.action_starts n.branch_starts n.destinations n.weights n.costs n.claims n.ranks in
     let k = c.read-outcome.auto in
-    let same = lengths_kept _ after k.marks k.action_starts k.branch_starts k.destinations k.weights k.costs k.claims k.ranks in
-    let long = long_read _ _ _ after c.read-outcome.ensures same _ c.in-Read.is _ c.counts_of-count.ensures.counts _ _ _ c.choice_count-chosen.ensures c.requires in
+    let all =
+    cuts_read _ _ _ after c.read-outcome.ensures k.marks k.action_starts k.branch_starts k.destinations k.weights k.costs k.claims k.ranks
+    _ c.in-Read.is _ c.counts_of-count.ensures.counts
+    in
+    let long = long_cut all _ _ _ _ _ k.marks c.choice_count-chosen.ensures c.requires in
     omega (arith, still_cut _ _ c.check-answer.new.choices long.choices c.check-answer.auto.choices, long.printed)
 
 pub returns-in-Read : goal.returns-in-Read
@@ -126,8 +139,11 @@ returns-in-Read c =
     let after = tables n.marks n.action_starts n.branch_starts n.destinations n.weights n.costs n.claims n.ranks in
     let w = not_too_long _ _ _ after _ c.if-most-file.false c.read-outcome.ensures in
     let k = c.read-outcome.auto in
-    let same = lengths_kept _ after k.marks k.action_starts k.branch_starts k.destinations k.weights k.costs k.claims k.ranks in
-    let long = long_read _ _ _ after c.read-outcome.ensures same _ c.in-Read.is _ c.counts_of-count.ensures.counts _ _ _ c.choice_count-chosen.ensures c.requires in
+    let all =
+    cuts_read _ _ _ after c.read-outcome.ensures k.marks k.action_starts k.branch_starts k.destinations k.weights k.costs k.claims k.ranks
+    _ c.in-Read.is _ c.counts_of-count.ensures.counts
+    in
+    let long = long_cut all _ _ _ _ _ k.marks c.choice_count-chosen.ensures c.requires in
     let t = c.tell-in-Read.ensures in
     printed_read _ _ _ _ after w c.read-outcome.ensures _ c.in-Read.is _ c.check-answer.new.choices _ _ _ _ _ _
     c.counts_of-count.ensures.counts c.choice_count-chosen.ensures c.check-answer.ensures

@@ -1,129 +1,153 @@
 -- `rewritten::rewritten` meets its contract: the tables have room for a file that was read, each is cut as the header counts it, and
 -- what is written lies within the buffer. Assumes nothing.
-use mathlib.Core.Path.{◌≡◌, sym, ◌∙◌}
-use mathlib.Core.List.{List}
-use Prim.Native.Nat.{ℕ}
+use mathlib.Core.Path.{sym, ◌∙◌}
 use native.Mathlib.Omega.{arith}
-use lib.ListN.{length}
-use Rattle.model.specs.declared.limits.Lengths.{Lengths}
-use Rattle.certfile.specs.declared.Header.{Header}
-use Rattle.certfile.specs.declared.Outcome.{Outcome}
-use Rattle.certfile.specs.declared.Outcome.TheVariants.{Read}
-use Rattle.certfile.specs.Layout.{counts_of}
-use Rattle.certfile.specs.Tables.{Tables, ReadInto}
-use Rattle.certfile.proofs.Passed.{lengths_kept, read_roomy}
-use Rattle.certfile.proofs.Cut.{Cuts, cuts, reaches}
+use Rattle.certfile.proofs.Cut.{cuts_read, reaches}
 use Rattle.writer.proofs.Judged.{length_told}
 use Rattle.rewritten.proofs.rewritten.Goals as goal
-
--- tables that a file was read into and that kept their lengths have each part that its header counts
-cut_read : (o : Outcome) (file : List ℕ) (t u : Tables) → ReadInto o file t u
-    → length u.marks ≡ length t.marks
-    → length u.action_starts ≡ length t.action_starts
-    → length u.branch_starts ≡ length t.branch_starts
-    → length u.destinations ≡ length t.destinations
-    → length u.weights ≡ length t.weights
-    → length u.costs ≡ length t.costs
-    → length u.claims ≡ length t.claims
-    → length u.ranks ≡ length t.ranks
-    → (h : Header) → o ≡ Read h → (count : Lengths) → count ≡ counts_of h → Cuts count u
-cut_read o file t u w k₁ k₂ k₃ k₄ k₅ k₆ k₇ k₈ h e count q =
-    cuts h count u q (read_roomy o file t u w h e (lengths_kept t u k₁ k₂ k₃ k₄ k₅ k₆ k₇ k₈))
 
 pub slice_bounds-marks-end : goal.slice_bounds-marks-end
 slice_bounds-marks-end c =
     let k = c.read-outcome.auto in
-    let all = cut_read _ _ _ _ c.read-outcome.ensures k.marks k.action_starts k.branch_starts k.destinations k.weights k.costs k.claims k.ranks _ c.in-Read.is _ c.counts_of-count.ensures.counts in
+    let all =
+    cuts_read _ _ _ _ c.read-outcome.ensures k.marks k.action_starts k.branch_starts k.destinations k.weights k.costs k.claims k.ranks
+    _ c.in-Read.is _ c.counts_of-count.ensures.counts
+    in
     reaches _ _ all.marks
 
 pub slice_bounds-write-end : goal.slice_bounds-write-end
 slice_bounds-write-end c =
     let k = c.read-outcome.auto in
-    let all = cut_read _ _ _ _ c.read-outcome.ensures k.marks k.action_starts k.branch_starts k.destinations k.weights k.costs k.claims k.ranks _ c.in-Read.is _ c.counts_of-count.ensures.counts in
+    let all =
+    cuts_read _ _ _ _ c.read-outcome.ensures k.marks k.action_starts k.branch_starts k.destinations k.weights k.costs k.claims k.ranks
+    _ c.in-Read.is _ c.counts_of-count.ensures.counts
+    in
     all.marks
 
 pub slice_bounds-action_starts-end : goal.slice_bounds-action_starts-end
 slice_bounds-action_starts-end c =
     let k = c.read-outcome.auto in
-    let all = cut_read _ _ _ _ c.read-outcome.ensures k.marks k.action_starts k.branch_starts k.destinations k.weights k.costs k.claims k.ranks _ c.in-Read.is _ c.counts_of-count.ensures.counts in
+    let all =
+    cuts_read _ _ _ _ c.read-outcome.ensures k.marks k.action_starts k.branch_starts k.destinations k.weights k.costs k.claims k.ranks
+    _ c.in-Read.is _ c.counts_of-count.ensures.counts
+    in
     reaches _ _ all.action_starts
 
 pub slice_bounds-write-end-in-Read : goal.slice_bounds-write-end-in-Read
 slice_bounds-write-end-in-Read c =
     let k = c.read-outcome.auto in
-    let all = cut_read _ _ _ _ c.read-outcome.ensures k.marks k.action_starts k.branch_starts k.destinations k.weights k.costs k.claims k.ranks _ c.in-Read.is _ c.counts_of-count.ensures.counts in
+    let all =
+    cuts_read _ _ _ _ c.read-outcome.ensures k.marks k.action_starts k.branch_starts k.destinations k.weights k.costs k.claims k.ranks
+    _ c.in-Read.is _ c.counts_of-count.ensures.counts
+    in
     all.action_starts
 
 pub slice_bounds-branch_starts-end : goal.slice_bounds-branch_starts-end
 slice_bounds-branch_starts-end c =
     let k = c.read-outcome.auto in
-    let all = cut_read _ _ _ _ c.read-outcome.ensures k.marks k.action_starts k.branch_starts k.destinations k.weights k.costs k.claims k.ranks _ c.in-Read.is _ c.counts_of-count.ensures.counts in
+    let all =
+    cuts_read _ _ _ _ c.read-outcome.ensures k.marks k.action_starts k.branch_starts k.destinations k.weights k.costs k.claims k.ranks
+    _ c.in-Read.is _ c.counts_of-count.ensures.counts
+    in
     reaches _ _ all.branch_starts
 
 pub slice_bounds-write-end-in-Read-2 : goal.slice_bounds-write-end-in-Read-2
 slice_bounds-write-end-in-Read-2 c =
     let k = c.read-outcome.auto in
-    let all = cut_read _ _ _ _ c.read-outcome.ensures k.marks k.action_starts k.branch_starts k.destinations k.weights k.costs k.claims k.ranks _ c.in-Read.is _ c.counts_of-count.ensures.counts in
+    let all =
+    cuts_read _ _ _ _ c.read-outcome.ensures k.marks k.action_starts k.branch_starts k.destinations k.weights k.costs k.claims k.ranks
+    _ c.in-Read.is _ c.counts_of-count.ensures.counts
+    in
     all.branch_starts
 
 pub slice_bounds-destinations-end : goal.slice_bounds-destinations-end
 slice_bounds-destinations-end c =
     let k = c.read-outcome.auto in
-    let all = cut_read _ _ _ _ c.read-outcome.ensures k.marks k.action_starts k.branch_starts k.destinations k.weights k.costs k.claims k.ranks _ c.in-Read.is _ c.counts_of-count.ensures.counts in
+    let all =
+    cuts_read _ _ _ _ c.read-outcome.ensures k.marks k.action_starts k.branch_starts k.destinations k.weights k.costs k.claims k.ranks
+    _ c.in-Read.is _ c.counts_of-count.ensures.counts
+    in
     reaches _ _ all.destinations
 
 pub slice_bounds-write-end-in-Read-3 : goal.slice_bounds-write-end-in-Read-3
 slice_bounds-write-end-in-Read-3 c =
     let k = c.read-outcome.auto in
-    let all = cut_read _ _ _ _ c.read-outcome.ensures k.marks k.action_starts k.branch_starts k.destinations k.weights k.costs k.claims k.ranks _ c.in-Read.is _ c.counts_of-count.ensures.counts in
+    let all =
+    cuts_read _ _ _ _ c.read-outcome.ensures k.marks k.action_starts k.branch_starts k.destinations k.weights k.costs k.claims k.ranks
+    _ c.in-Read.is _ c.counts_of-count.ensures.counts
+    in
     all.destinations
 
 pub slice_bounds-weights-end : goal.slice_bounds-weights-end
 slice_bounds-weights-end c =
     let k = c.read-outcome.auto in
-    let all = cut_read _ _ _ _ c.read-outcome.ensures k.marks k.action_starts k.branch_starts k.destinations k.weights k.costs k.claims k.ranks _ c.in-Read.is _ c.counts_of-count.ensures.counts in
+    let all =
+    cuts_read _ _ _ _ c.read-outcome.ensures k.marks k.action_starts k.branch_starts k.destinations k.weights k.costs k.claims k.ranks
+    _ c.in-Read.is _ c.counts_of-count.ensures.counts
+    in
     reaches _ _ all.weights
 
 pub slice_bounds-write-end-in-Read-4 : goal.slice_bounds-write-end-in-Read-4
 slice_bounds-write-end-in-Read-4 c =
     let k = c.read-outcome.auto in
-    let all = cut_read _ _ _ _ c.read-outcome.ensures k.marks k.action_starts k.branch_starts k.destinations k.weights k.costs k.claims k.ranks _ c.in-Read.is _ c.counts_of-count.ensures.counts in
+    let all =
+    cuts_read _ _ _ _ c.read-outcome.ensures k.marks k.action_starts k.branch_starts k.destinations k.weights k.costs k.claims k.ranks
+    _ c.in-Read.is _ c.counts_of-count.ensures.counts
+    in
     all.weights
 
 pub slice_bounds-costs-end : goal.slice_bounds-costs-end
 slice_bounds-costs-end c =
     let k = c.read-outcome.auto in
-    let all = cut_read _ _ _ _ c.read-outcome.ensures k.marks k.action_starts k.branch_starts k.destinations k.weights k.costs k.claims k.ranks _ c.in-Read.is _ c.counts_of-count.ensures.counts in
+    let all =
+    cuts_read _ _ _ _ c.read-outcome.ensures k.marks k.action_starts k.branch_starts k.destinations k.weights k.costs k.claims k.ranks
+    _ c.in-Read.is _ c.counts_of-count.ensures.counts
+    in
     reaches _ _ all.costs
 
 pub slice_bounds-write-end-in-Read-5 : goal.slice_bounds-write-end-in-Read-5
 slice_bounds-write-end-in-Read-5 c =
     let k = c.read-outcome.auto in
-    let all = cut_read _ _ _ _ c.read-outcome.ensures k.marks k.action_starts k.branch_starts k.destinations k.weights k.costs k.claims k.ranks _ c.in-Read.is _ c.counts_of-count.ensures.counts in
+    let all =
+    cuts_read _ _ _ _ c.read-outcome.ensures k.marks k.action_starts k.branch_starts k.destinations k.weights k.costs k.claims k.ranks
+    _ c.in-Read.is _ c.counts_of-count.ensures.counts
+    in
     all.costs
 
 pub slice_bounds-claims-end : goal.slice_bounds-claims-end
 slice_bounds-claims-end c =
     let k = c.read-outcome.auto in
-    let all = cut_read _ _ _ _ c.read-outcome.ensures k.marks k.action_starts k.branch_starts k.destinations k.weights k.costs k.claims k.ranks _ c.in-Read.is _ c.counts_of-count.ensures.counts in
+    let all =
+    cuts_read _ _ _ _ c.read-outcome.ensures k.marks k.action_starts k.branch_starts k.destinations k.weights k.costs k.claims k.ranks
+    _ c.in-Read.is _ c.counts_of-count.ensures.counts
+    in
     reaches _ _ all.claims
 
 pub slice_bounds-write-end-in-Read-6 : goal.slice_bounds-write-end-in-Read-6
 slice_bounds-write-end-in-Read-6 c =
     let k = c.read-outcome.auto in
-    let all = cut_read _ _ _ _ c.read-outcome.ensures k.marks k.action_starts k.branch_starts k.destinations k.weights k.costs k.claims k.ranks _ c.in-Read.is _ c.counts_of-count.ensures.counts in
+    let all =
+    cuts_read _ _ _ _ c.read-outcome.ensures k.marks k.action_starts k.branch_starts k.destinations k.weights k.costs k.claims k.ranks
+    _ c.in-Read.is _ c.counts_of-count.ensures.counts
+    in
     all.claims
 
 pub slice_bounds-ranks-end : goal.slice_bounds-ranks-end
 slice_bounds-ranks-end c =
     let k = c.read-outcome.auto in
-    let all = cut_read _ _ _ _ c.read-outcome.ensures k.marks k.action_starts k.branch_starts k.destinations k.weights k.costs k.claims k.ranks _ c.in-Read.is _ c.counts_of-count.ensures.counts in
+    let all =
+    cuts_read _ _ _ _ c.read-outcome.ensures k.marks k.action_starts k.branch_starts k.destinations k.weights k.costs k.claims k.ranks
+    _ c.in-Read.is _ c.counts_of-count.ensures.counts
+    in
     reaches _ _ all.ranks
 
 pub slice_bounds-write-end-in-Read-7 : goal.slice_bounds-write-end-in-Read-7
 slice_bounds-write-end-in-Read-7 c =
     let k = c.read-outcome.auto in
-    let all = cut_read _ _ _ _ c.read-outcome.ensures k.marks k.action_starts k.branch_starts k.destinations k.weights k.costs k.claims k.ranks _ c.in-Read.is _ c.counts_of-count.ensures.counts in
+    let all =
+    cuts_read _ _ _ _ c.read-outcome.ensures k.marks k.action_starts k.branch_starts k.destinations k.weights k.costs k.claims k.ranks
+    _ c.in-Read.is _ c.counts_of-count.ensures.counts
+    in
     all.ranks
 
 pub told-requires-clause-by_index : goal.told-requires-clause-by_index

@@ -39,7 +39,8 @@ unfolding row_tests
 returns-then-not-accepts-3 c =
     c.marks_test-v.ensures
     ∙ sym
-    (tried_go _ _ _ (goes c.accepts.ensures (ap not c.if-not-accepts.false) c.starts_test-v.ensures) ∙ tried_go _ _ _ (goes c.accepts-2.ensures (ap not c.if-not-accepts-2.false) c.starts_test-v-2.ensures)
+    (tried_go _ _ _ (goes c.accepts.ensures (ap not c.if-not-accepts.false) c.starts_test-v.ensures)
+    ∙ tried_go _ _ _ (goes c.accepts-2.ensures (ap not c.if-not-accepts-2.false) c.starts_test-v-2.ensures)
     ∙ tried_stop _ _ _ (stops c.accepts-3.ensures (ap not c.if-not-accepts-3.true) c.marks_test-v.ensures))
 
 pub walk_test-requires : goal.walk_test-requires
@@ -61,5 +62,6 @@ unfolding row_tests
 returns c =
     c.walk_test.ensures ∙ walks _
     ∙ sym
-    (tried_go _ _ _ (goes c.accepts.ensures (ap not c.if-not-accepts.false) c.starts_test-v.ensures) ∙ tried_go _ _ _ (goes c.accepts-2.ensures (ap not c.if-not-accepts-2.false) c.starts_test-v-2.ensures)
+    (tried_go _ _ _ (goes c.accepts.ensures (ap not c.if-not-accepts.false) c.starts_test-v.ensures)
+    ∙ tried_go _ _ _ (goes c.accepts-2.ensures (ap not c.if-not-accepts-2.false) c.starts_test-v-2.ensures)
     ∙ tried_go _ _ _ (goes c.accepts-3.ensures (ap not c.if-not-accepts-3.false) c.marks_test-v.ensures) ∙ walk-word _)

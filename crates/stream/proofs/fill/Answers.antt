@@ -1,3 +1,4 @@
+-- `stream::fill` meets its contract: what a read puts behind what is there is what the input lost.
 use Rattle.std.proofs.Common.{rules, subst}
 use Rattle.std.specs.Io.KnownBytes.{Consumes}
 use Rattle.std.proofs.KnownBytes.{Consumes-trans}

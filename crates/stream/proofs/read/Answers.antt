@@ -1,3 +1,4 @@
+-- `stream::read` meets its contract: the input loses bytes at its front in each of its reads.
 use Rattle.stream.proofs.Lost.{loses_more}
 use Rattle.stream.proofs.read.Goals as goal
 

@@ -1,3 +1,4 @@
+-- `stream::skip` meets its contract: the input loses more in each piece that is dropped.
 use Rattle.stream.proofs.Lost.{loses_more}
 use Rattle.stream.proofs.skip.Goals as goal
 
