@@ -5,7 +5,7 @@ use Prim.Native.Nat.{ℕ, ◌≤◌}
 use native.Mathlib.Omega.{arith}
 use lib.ListN.{length, take, length-take}
 use lib.Seq.{length-take-le}
-use Rattle.model.specs.declared.limits.Lengths.{Lengths}
+use Rattle.model.specs.declared.tables.Lengths.{Lengths}
 use Rattle.model.specs.Tables.{Model, Claim, model_of, claim_of}
 use Rattle.wire.specs.Blocks.{block}
 use Rattle.certfile.specs.declared.Header.{Header}

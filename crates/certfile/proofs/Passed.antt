@@ -7,7 +7,7 @@ use native.Mathlib.Omega.{arith}
 use lib.Dec.{leb, eqb}
 use lib.ListN.{length, get_or}
 use borrow.Author.Tests.{leb-true, eqb-true}
-use Rattle.model.specs.declared.limits.Lengths.{Lengths}
+use Rattle.model.specs.declared.tables.Lengths.{Lengths}
 use Rattle.model.specs.Limits.{most_states, most_actions, most_branches}
 use Rattle.model.specs.Kinds.{is_kind}
 use Rattle.wire.specs.Blocks.{Block, size, place, block, block_of, overwritten}

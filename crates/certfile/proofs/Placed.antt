@@ -3,7 +3,7 @@ use mathlib.Core.Path.{◌≡◌}
 use mathlib.Core.List.{List, [], ◌∷◌}
 use Prim.Native.Nat.{ℕ, zero, suc, ◌+◌, ◌*◌, ◌≤◌, zero-le}
 use native.Mathlib.Omega.{arith}
-use Rattle.model.specs.declared.limits.Lengths.{Lengths}
+use Rattle.model.specs.declared.tables.Lengths.{Lengths}
 use Rattle.wire.specs.Blocks.{Block, size, place, block}
 use Rattle.certfile.specs.declared.Header.{Header}
 use Rattle.certfile.specs.File.{blocks}

@@ -1,6 +1,6 @@
 -- A number for each table: the entries that a header announces, the places of the tables, the lengths that are lent. A file has eight.
 use Rattle.std.specs.Prelude.{ℕ, ◌+◌, ◌≤◌, List, [], ◌∷◌}
-use Rattle.model.specs.declared.limits.Lengths.{Lengths}
+use Rattle.model.specs.declared.tables.Lengths.{Lengths}
 use Rattle.wire.specs.Blocks.{size, place, block}
 use Rattle.certfile.specs.declared.Header.{Header}
 use Rattle.certfile.specs.File.{header_blocks, announced}

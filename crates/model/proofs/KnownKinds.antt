@@ -7,29 +7,34 @@ use lib.Dec.{T, leb}
 use lib.ListN.{get_or-eq_default}
 use borrow.Author.Tests.{leb-false}
 use Rattle.model.specs.declared.kinds.Kind.{Kind}
-use Rattle.model.specs.declared.kinds.Known.{Known}
-use Rattle.model.specs.declared.kinds.Known.TheVariants.{As, Nothing}
+use Rattle.std.specs.Prelude.{Result, Ok, Err}
+use Rattle.model.specs.declared.answers.Fault.{Fault}
+use Rattle.model.specs.declared.answers.Refusal.TheVariants as refusal
 use Rattle.model.specs.Kinds.{kinds, kind_of, is_kind, known_as}
 
 abbrev pub first : Kind
 first = kind_of 1
 
-abbrev pick : Bool → Kind → Known
-pick b x = cond b (As x) Nothing
+-- what a number that is no kind is refused with
+abbrev pub no_kind : Fault
+no_kind = record { refusal = refusal.Kind; place = 0 }
 
-picked : (b : Bool) (x k : Kind) → pick b x ≡ As k → (b ≡ true) × (x ≡ k)
+abbrev pick : Bool → Kind → Result Kind Fault
+pick b x = cond b (Ok x) (Err no_kind)
+
+picked : (b : Bool) (x k : Kind) → pick b x ≡ Ok k → (b ≡ true) × (x ≡ k)
 picked true x k e = (refl, cc)
 picked false x k e = let z : ◌≡◌ {A = ℕ} 0 1 = cc in absurd (omega arith)
 
-missed : (b : Bool) (x : Kind) → pick b x ≡ Nothing → b ≡ false
-missed true x e = let z : ◌≡◌ {A = ℕ} 0 1 = cc in absurd (omega arith)
-missed false x e = refl
+missed : (b : Bool) (x : Kind) (f : Fault) → pick b x ≡ Err f → (b ≡ false) × (f ≡ no_kind)
+missed true x f e = let z : ◌≡◌ {A = ℕ} 0 1 = cc in absurd (omega arith)
+missed false x f e = (refl, cc)
 
-pub named : (number : ℕ) (k : Kind) → known_as number ≡ As k → (is_kind number ≡ true) × (kind_of number ≡ k)
+pub named : (number : ℕ) (k : Kind) → known_as number ≡ Ok k → (is_kind number ≡ true) × (kind_of number ≡ k)
 named number k e = picked (is_kind number) (kind_of number) k e
 
-pub unnamed : (number : ℕ) → known_as number ≡ Nothing → is_kind number ≡ false
-unnamed number e = missed (is_kind number) (kind_of number) e
+pub unnamed : (number : ℕ) (f : Fault) → known_as number ≡ Err f → (is_kind number ≡ false) × (f ≡ no_kind)
+unnamed number f e = missed (is_kind number) (kind_of number) f e
 
 -- a number that is no kind is taken for the first
 pub as_first : (number : ℕ) → is_kind number ≡ false → kind_of number ≡ first

@@ -1,5 +1,5 @@
 -- The eight kinds of claim, and what each needs.
-use Rattle.std.specs.Prelude.{ℕ, ◌-◌, ◌≡◌, Bool, true, false, ◌&&◌, cond, List, [], ◌∷◌, leb, get_or}
+use Rattle.std.specs.Prelude.{ℕ, ◌-◌, ◌≡◌, Bool, true, false, ◌&&◌, cond, List, [], ◌∷◌, Result, Ok, Err, leb, get_or}
 use Rattle.model.specs.declared.kinds.Measure.{Measure}
 use Rattle.model.specs.declared.kinds.Measure.TheVariants.{Arrival, Cost}
 use Rattle.model.specs.declared.kinds.Bound.{Bound}
@@ -7,8 +7,8 @@ use Rattle.model.specs.declared.kinds.Bound.TheVariants.{AtMost, AtLeast}
 use Rattle.model.specs.declared.kinds.Who.{Who}
 use Rattle.model.specs.declared.kinds.Who.TheVariants.{Every, Some}
 use Rattle.model.specs.declared.kinds.Kind.{Kind}
-use Rattle.model.specs.declared.kinds.Known.{Known}
-use Rattle.model.specs.declared.kinds.Known.TheVariants.{As, Nothing}
+use Rattle.model.specs.declared.answers.Fault.{Fault}
+use Rattle.model.specs.declared.answers.Refusal.TheVariants as refusal
 
 abbrev pub is_cost : Measure → Bool
 is_cost Arrival = false
@@ -46,8 +46,8 @@ kind_of number = get_or kinds (number - 1) (row Arrival AtMost Every)
 abbrev pub is_kind : ℕ → Bool
 is_kind number = leb 1 number && leb number 8
 
-abbrev pub known_as : ℕ → Known
-known_as number = cond (is_kind number) (As (kind_of number)) Nothing
+abbrev pub known_as : ℕ → Result Kind Fault
+known_as number = cond (is_kind number) (Ok (kind_of number)) (Err (record { refusal = refusal.Kind; place = 0 }))
 
 -- the last three columns of a kind follow from the first three
 pub record Columns (k : Kind) : Type 0 where

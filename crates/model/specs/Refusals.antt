@@ -3,7 +3,7 @@ use Rattle.std.specs.Prelude.{ℕ, ◌+◌, ◌-◌, Bool, cond, not, ◌&&◌, 
 use Rattle.walk.specs.Fold.{sum}
 use Rattle.model.specs.declared.answers.Verdict.{Verdict}
 use Rattle.model.specs.declared.kinds.Kind.{Kind}
-use Rattle.model.specs.declared.limits.Lengths.{Lengths}
+use Rattle.model.specs.declared.tables.Lengths.{Lengths}
 use Rattle.model.specs.Limits.{most_states, most_actions, most_branches, most_weight_scale, most_claim_scale}
 use Rattle.model.specs.Limits.{most_cost, most_cost_claim, none}
 use Rattle.model.specs.Kinds.{is_cost, is_kind, kind_of}

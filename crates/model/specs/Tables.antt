@@ -1,5 +1,7 @@
 -- The tables of a model and a claim, and what stands in them.
 use Rattle.std.specs.Prelude.{ℕ, ◌-◌, Bool, not, List, eqb, length, get_or}
+use Rattle.model.specs.declared.tables.Model as lent_model
+use Rattle.model.specs.declared.tables.Claim as lent_claim
 use Rattle.model.specs.Limits.{none}
 
 -- the scale D of weights, and tables 1 to 5
@@ -32,6 +34,13 @@ model_of d marks action_starts branch_starts destinations weights =
 
 abbrev pub claim_of : ℕ → List ℕ → List ℕ → List ℕ → Claim
 claim_of c costs claims ranks = record { c = c; costs = costs; claims = claims; ranks = ranks }
+
+-- the records of tables that are lent together
+abbrev pub model_in : lent_model.Model → Model
+model_in t = model_of t.d t.marks.now t.action_starts.now t.branch_starts.now t.destinations.now t.weights.now
+
+abbrev pub claim_in : lent_claim.Claim → Claim
+claim_in u = claim_of u.c u.costs.now u.claims.now u.ranks.now
 
 -- n states, m actions and b branches
 abbrev pub states : Model → ℕ

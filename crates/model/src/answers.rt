@@ -1,9 +1,103 @@
-// What comes back: one verdict, with the kind of claim beside it.
-ghost use Rattle.std.specs.Prelude.{◌≡◌};
-ghost use Rattle.model.specs.Answers.{number, then, require};
+// What comes back: a refusal or a violation where something is wrong, and one verdict, with the kind of claim beside it.
+ghost use Rattle.std.specs.Prelude.{◌≡◌, ◌^◌, ◌<◌, IfSome};
+ghost use Rattle.model.specs.Answers.{code, asked, number, given, broken, tested, require, found};
 ghost use Rattle.model.specs.Checked.{accepts};
 
-#[derive(Clone, Copy)]
+// Document 01's refusals, each with its number: 1 to 14 over tables, 31 to 34 over a file, 35 over a buffer to write into.
+#[derive(Clone, Copy, Debug, PartialEq, Eq)]
+pub enum Refusal {
+    Kind = 1,
+    WeightScale = 2,
+    ClaimScale = 3,
+    States = 4,
+    Length = 5,
+    ActionStarts = 6,
+    BranchStarts = 7,
+    Mark = 8,
+    Destination = 9,
+    Weight = 10,
+    Total = 11,
+    Cost = 12,
+    Claim = 13,
+    Rank = 14,
+    LengthField = 31,
+    Version = 32,
+    Counts = 33,
+    FileLength = 34,
+    Buffer = 35,
+}
+
+// A refusal, and its place.
+#[derive(Clone, Copy, Debug, PartialEq, Eq)]
+pub struct Fault {
+    pub refusal: Refusal,
+    pub place: u32,
+}
+
+impl Refusal {
+    pub fn number(self) -> u32
+        ensures { result ≡ code self }
+    {
+        self as u32
+    }
+
+    // Refused at this place, unless it is right.
+    #[tactic(auto, unfolding(crate::specs::Answers::require))]
+    pub fn unless(self, right: bool, place: u32) -> Result<(), Fault>
+        ensures { tested result ≡ require right (code self) place }
+    {
+        if right {
+            Ok(())
+        } else {
+            Err(Fault {
+                refusal: self,
+                place,
+            })
+        }
+    }
+
+    // Refused at the place where something wrong was found, if any.
+    #[tactic(auto, unfolding(crate::specs::Answers::found))]
+    pub fn where_found(self, place: Option<usize>) -> Result<(), Fault>
+        requires { IfSome place (λ i. i < 2 ^ 32) }
+        ensures { tested result ≡ found (code self) place }
+    {
+        match place {
+            Some(i) => Err(Fault {
+                refusal: self,
+                place: i as u32,
+            }),
+            None => Ok(()),
+        }
+    }
+}
+
+// Document 01's conditions, each with its number.
+#[derive(Clone, Copy, Debug, PartialEq, Eq)]
+pub enum Condition {
+    Target = 21,
+    Suits = 22,
+    Ranked = 23,
+    Falls = 24,
+}
+
+// A condition that is broken, the state, and its action or none.
+#[derive(Clone, Copy, Debug, PartialEq, Eq)]
+pub struct Violation {
+    pub condition: Condition,
+    pub state: u32,
+    pub action: u32,
+}
+
+impl Condition {
+    pub fn number(self) -> u32
+        ensures { result ≡ asked self }
+    {
+        self as u32
+    }
+}
+
+#[derive(Clone, Copy, Debug, PartialEq, Eq)]
 pub enum Verdict {
     Accepted {
         rank: u32,
@@ -19,23 +113,35 @@ pub enum Verdict {
     },
 }
 
+impl From<Fault> for Verdict {
+    ghost from_gives = { λ f v. v ≡ given f };
+
+    fn from(fault: Fault) -> Verdict {
+        Verdict::Refused {
+            number: fault.refusal.number(),
+            place: fault.place,
+        }
+    }
+}
+
+impl From<Violation> for Verdict {
+    ghost from_gives = { λ x v. v ≡ broken x };
+
+    fn from(violation: Violation) -> Verdict {
+        Verdict::Violated {
+            number: violation.condition.number(),
+            state: violation.state,
+            action: violation.action,
+        }
+    }
+}
+
 impl Verdict {
     // Nothing was found wrong.
     pub fn accepts(self) -> bool
         ensures { result ≡ accepts self }
     {
-        match self {
-            Verdict::Accepted { rank: _ } => true,
-            Verdict::Refused {
-                number: _,
-                place: _,
-            } => false,
-            Verdict::Violated {
-                number: _,
-                state: _,
-                action: _,
-            } => false,
-        }
+        matches!(self, Verdict::Accepted { .. })
     }
 
     // Document 01's number.
@@ -43,82 +149,15 @@ impl Verdict {
         ensures { result ≡ number self }
     {
         match self {
-            Verdict::Accepted { rank: _ } => 0,
-            Verdict::Refused { number, place: _ } => number,
-            Verdict::Violated {
-                number,
-                state: _,
-                action: _,
-            } => number,
+            Verdict::Accepted { .. } => 0,
+            Verdict::Refused { number, .. } | Verdict::Violated { number, .. } => number,
         }
-    }
-
-    // What this says, unless it accepts: then refused with this number at this place, unless it is right.
-    #[tactic(auto, unfolding(crate::specs::Answers::then, crate::specs::Answers::require))]
-    pub fn require(self, right: bool, number: u32, place: u32) -> Verdict
-        ensures { result ≡ then self (require right number place) }
-    {
-        if self.accepts() {
-            if right {
-                return Verdict::Accepted { rank: 0 };
-            }
-            return Verdict::Refused { number, place };
-        }
-        self
     }
 }
 
 // The verdict, and the kind's number as lent.
-#[derive(Clone, Copy)]
+#[derive(Clone, Copy, Debug, PartialEq, Eq)]
 pub struct Answer {
     pub kind: u32,
     pub verdict: Verdict,
-}
-
-// Document 01's numbers of the refusals over tables.
-#[derive(Clone, Copy)]
-pub struct Refusal {}
-
-impl Refusal {
-    pub const KIND: u32 = 1;
-
-    pub const WEIGHT_SCALE: u32 = 2;
-
-    pub const CLAIM_SCALE: u32 = 3;
-
-    pub const STATES: u32 = 4;
-
-    pub const LENGTH: u32 = 5;
-
-    pub const ACTION_STARTS: u32 = 6;
-
-    pub const BRANCH_STARTS: u32 = 7;
-
-    pub const MARK: u32 = 8;
-
-    pub const DESTINATION: u32 = 9;
-
-    pub const WEIGHT: u32 = 10;
-
-    pub const TOTAL: u32 = 11;
-
-    pub const COST: u32 = 12;
-
-    pub const CLAIM: u32 = 13;
-
-    pub const RANK: u32 = 14;
-}
-
-// Document 01's numbers of the conditions.
-#[derive(Clone, Copy)]
-pub struct Condition {}
-
-impl Condition {
-    pub const TARGET: u32 = 21;
-
-    pub const SUITS: u32 = 22;
-
-    pub const RANKED: u32 = 23;
-
-    pub const FALLS: u32 = 24;
 }

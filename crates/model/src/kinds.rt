@@ -3,7 +3,9 @@ ghost use Rattle.std.specs.Prelude.{◌≡◌};
 ghost use Rattle.model.specs.Kinds.{is_cost, is_at_least, is_some, known_as};
 ghost use Rattle.model.specs.Refusals.{choice_count, entries};
 
-#[derive(Clone, Copy)]
+use crate::{Fault, Refusal};
+
+#[derive(Clone, Copy, Debug, PartialEq, Eq)]
 pub enum Measure {
     Arrival,
     Cost,
@@ -13,14 +15,11 @@ impl Measure {
     pub fn is_cost(self) -> bool
         ensures { result ≡ is_cost self }
     {
-        match self {
-            Measure::Arrival => false,
-            Measure::Cost => true,
-        }
+        self == Measure::Cost
     }
 }
 
-#[derive(Clone, Copy)]
+#[derive(Clone, Copy, Debug, PartialEq, Eq)]
 pub enum Bound {
     AtMost,
     AtLeast,
@@ -30,14 +29,11 @@ impl Bound {
     pub fn is_at_least(self) -> bool
         ensures { result ≡ is_at_least self }
     {
-        match self {
-            Bound::AtMost => false,
-            Bound::AtLeast => true,
-        }
+        self == Bound::AtLeast
     }
 }
 
-#[derive(Clone, Copy)]
+#[derive(Clone, Copy, Debug, PartialEq, Eq)]
 pub enum Who {
     Every,
     Some,
@@ -47,15 +43,12 @@ impl Who {
     pub fn is_some(self) -> bool
         ensures { result ≡ is_some self }
     {
-        match self {
-            Who::Every => false,
-            Who::Some => true,
-        }
+        self == Who::Some
     }
 }
 
 // What a claim of one kind is about, and whether it has costs, has ranks and writes choices.
-#[derive(Clone, Copy)]
+#[derive(Clone, Copy, Debug, PartialEq, Eq)]
 pub struct Kind {
     pub measure: Measure,
     pub bound: Bound,
@@ -63,13 +56,6 @@ pub struct Kind {
     pub costs: bool,
     pub ranks: bool,
     pub choices: bool,
-}
-
-// A kind's number is 1 to 8, or it is no kind.
-#[derive(Clone, Copy)]
-pub enum Known {
-    As(Kind),
-    Nothing,
 }
 
 impl Kind {
@@ -143,18 +129,21 @@ impl Kind {
     ];
 }
 
-// The kind that a number names.
-pub fn kind_of(number: u32) -> Known
-    ensures { result ≡ known_as number }
-{
-    if number == 0 {
-        return Known::Nothing;
+// The kind that a number from 1 to 8 names; any other is refused.
+impl TryFrom<u32> for Kind {
+    type Error = Fault;
+
+    ghost try_from_gives = { λ number r. r ≡ known_as number };
+
+    fn try_from(number: u32) -> Result<Kind, Fault> {
+        match number {
+            1..=Kind::COUNT => Ok(Kind::TABLE[number as usize - 1]),
+            _ => Err(Fault {
+                refusal: Refusal::Kind,
+                place: 0,
+            }),
+        }
     }
-    if Kind::COUNT < number {
-        return Known::Nothing;
-    }
-    let row = (number - 1) as usize;
-    Known::As(Kind::TABLE[row])
 }
 
 // The entries of a table that a claim has, or has not.
@@ -168,8 +157,8 @@ pub fn entries_of(has: bool, n: usize) -> usize
 pub fn choice_count(kind: u32, n: usize) -> usize
     ensures { result ≡ choice_count kind n }
 {
-    match kind_of(kind) {
-        Known::As(k) => entries_of(k.choices, n),
-        Known::Nothing => 0,
+    match Kind::try_from(kind) {
+        Ok(k) => entries_of(k.choices, n),
+        Err(_) => 0,
     }
 }

@@ -1,12 +1,12 @@
-// What document 01 speaks of: limits and the none mark, the eight kinds of claim, the answer, and one action's branches.
+// What document 01 speaks of: tables, limits and the none mark, the eight kinds of claim, the answer, and one action's branches.
 #![tactic(auto)]
 
 mod answers;
 mod kinds;
-mod limits;
 mod stretch;
+mod tables;
 
-pub use answers::{Answer, Condition, Refusal, Verdict};
-pub use kinds::{Bound, Kind, Known, Measure, Who, choice_count, entries_of, kind_of};
-pub use limits::{Claim, Cost, Lengths, Model, Rank, Weight};
-pub use stretch::{Stretch, branches};
+pub use answers::{Answer, Condition, Fault, Refusal, Verdict, Violation};
+pub use kinds::{Bound, Kind, Measure, Who, choice_count, entries_of};
+pub use stretch::branches;
+pub use tables::{Claim, Cost, Lengths, Model, Rank, Weight};

@@ -2,34 +2,19 @@
 ghost use Rattle.std.specs.Prelude.{◌≡◌, ◌+◌, ◌*◌, length};
 ghost use Rattle.model.specs.Branches.{stretch_of, within};
 
-// The entries of a table from one place up to, not with, the other.
-#[derive(Clone, Copy)]
-pub struct Stretch {
-    pub from: usize,
-    pub to: usize,
-}
+use std::ops::Range;
 
 // Where the branches of an action stand in a table of this length.
-fn stretch_of(length: usize, branch_starts: &[u32], action: u32) -> Stretch
+#[tactic(auto, unfolding(crate::specs::Branches::stretch_of, crate::specs::Branches::rises))]
+fn stretch_of(length: usize, branch_starts: &[u32], action: u32) -> Range<usize>
     ensures { result ≡ stretch_of length branch_starts.now action }
 {
     let at = action as usize;
-    let nothing = Stretch { from: 0, to: 0 };
-    if branch_starts.len() <= at {
-        return nothing;
+    match (branch_starts.get(at), branch_starts.get(at + 1)) {
+        (Some(from), Some(to)) if from < to && *to as usize <= length =>
+            *from as usize..*to as usize,
+        _ => 0..0,
     }
-    if branch_starts.len() - at == 1 {
-        return nothing;
-    }
-    let from = branch_starts[at] as usize;
-    let to = branch_starts[at + 1] as usize;
-    if to <= from {
-        return nothing;
-    }
-    if length < to {
-        return nothing;
-    }
-    Stretch { from, to }
 }
 
 // The entries of a table that belong to an action by its two starts. Where there is no such action, or its two starts do not
@@ -38,10 +23,7 @@ pub fn branches<'a>(table: &'a [u32], branch_starts: &[u32], action: u32) -> &'a
     ensures entries { let x = stretch_of (length table.now) branch_starts.now action in
         result.now ≡ within table.now x }
     ensures place { let x = stretch_of (length table.now) branch_starts.now action in
-        result.ref_ptr ≡ (table.entry.ref_ptr.0, x.from * 4 + table.entry.ref_ptr.1) }
+        result.ref_ptr ≡ (table.entry.ref_ptr.0, x.start * 4 + table.entry.ref_ptr.1) }
 {
-    let x = stretch_of(table.len(), branch_starts, action);
-    let from = x.from;
-    let to = x.to;
-    &table[from..to]
+    &table[stretch_of(table.len(), branch_starts, action)]
 }

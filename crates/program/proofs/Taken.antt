@@ -11,7 +11,7 @@ use Rattle.model.specs.declared.answers.Verdict.{Verdict}
 use Rattle.model.specs.declared.answers.Verdict.TheVariants.{Refused as Refuses}
 use Rattle.model.specs.Answers.{number, then, require}
 use Rattle.model.specs.Checked.{refusal_of, choices_of}
-use Rattle.model.specs.declared.limits.Lengths.{Lengths}
+use Rattle.model.specs.declared.tables.Lengths.{Lengths}
 use Rattle.model.specs.Kinds.{kind_of}
 use Rattle.model.specs.Refusals.{choice_count}
 use Rattle.model.specs.Tables.{Model, Claim}

@@ -1,15 +1,41 @@
-// Each limit of document 01 once, with the kind of thing that it bounds.
+// The tables of a model and of a claim, as they are lent, and each limit of document 01 once, with the kind of thing that it bounds.
 
-// A model's greatest counts of states, actions and branches.
+// A model: the scale D of weights, and tables 1 to 5.
 #[derive(Clone, Copy)]
-pub struct Model {}
+pub struct Model<'a> {
+    pub d: u32,
+    pub marks: &'a [u8],
+    pub action_starts: &'a [u32],
+    pub branch_starts: &'a [u32],
+    pub destinations: &'a [u32],
+    pub weights: &'a [u32],
+}
 
-impl Model {
+// Its greatest counts of states, actions and branches.
+impl Model<'_> {
     pub const MOST_STATES: u32 = 20_000;
 
     pub const MOST_ACTIONS: u32 = 100_000;
 
     pub const MOST_BRANCHES: u32 = 1_000_000;
+}
+
+// A claim: its scale C, and tables 6 to 8.
+#[derive(Clone, Copy)]
+pub struct Claim<'a> {
+    pub c: u32,
+    pub costs: &'a [u32],
+    pub claims: &'a [u64],
+    pub ranks: &'a [u32],
+}
+
+// The greatest scale, for arrival and for cost, and the greatest claim of a cost kind.
+impl Claim<'_> {
+    pub const MOST_SCALE: u32 = 1_000_000_000;
+
+    pub const COST_SCALE: u32 = 1;
+
+    pub const MOST_COST: u64 = 1_000_000_000_000;
 }
 
 // A weight is 1 to its scale D, and D is 1 to this.
@@ -18,18 +44,6 @@ pub struct Weight {}
 
 impl Weight {
     pub const MOST_SCALE: u32 = 1_000_000;
-}
-
-// A claim's greatest scale C, for arrival and for cost, and the greatest claim of a cost kind.
-#[derive(Clone, Copy)]
-pub struct Claim {}
-
-impl Claim {
-    pub const MOST_SCALE: u32 = 1_000_000_000;
-
-    pub const COST_SCALE: u32 = 1;
-
-    pub const MOST_COST: u64 = 1_000_000_000_000;
 }
 
 // The cost of a state is at most this.
