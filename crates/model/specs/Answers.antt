@@ -80,10 +80,15 @@ proper (Violated k s a) = is_condition k
 abbrev pub pass : Verdict
 pass = Accepted 0
 
--- what a test says that answers nothing or a refusal, and one that answers R or a violation
-abbrev pub tested : Result Unit Fault → Verdict
+-- what the tests say that answer a refusal or, with whatever else, that there is none
+abbrev pub tested : {A : Type 0} → Result A Fault → Verdict
 tested (Ok x) = pass
 tested (Err f) = given f
+
+-- the same of what answers a violation, and of the whole judgement, which answers R
+abbrev pub held : {A : Type 0} → Result A Violation → Verdict
+held (Ok x) = pass
+held (Err x) = broken x
 
 abbrev pub judged_as : Result ℕ Violation → Verdict
 judged_as (Ok r) = Accepted r

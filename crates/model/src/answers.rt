@@ -1,7 +1,8 @@
 // What comes back: a refusal or a violation where something is wrong, and one verdict, with the kind of claim beside it.
 ghost use Rattle.std.specs.Prelude.{◌≡◌, ◌^◌, ◌<◌, IfSome};
-ghost use Rattle.model.specs.Answers.{code, asked, number, given, broken, tested, require, found};
+ghost use Rattle.model.specs.Answers.{code, asked, number, given, broken, tested, held, require, found};
 ghost use Rattle.model.specs.Checked.{accepts};
+ghost use Rattle.model.specs.Conditions.{ask};
 
 // Document 01's refusals, each with its number: 1 to 14 over tables, 31 to 34 over a file, 35 over a buffer to write into.
 #[derive(Clone, Copy, Debug, PartialEq, Eq)]
@@ -94,6 +95,22 @@ impl Condition {
         ensures { result ≡ asked self }
     {
         self as u32
+    }
+
+    // Violated at this state and action, unless it is met.
+    #[tactic(auto, unfolding(crate::specs::Conditions::ask))]
+    pub fn unless(self, met: bool, state: u32, action: u32) -> Result<(), Violation>
+        ensures { held result ≡ ask met (asked self) state action }
+    {
+        if met {
+            Ok(())
+        } else {
+            Err(Violation {
+                condition: self,
+                state,
+                action,
+            })
+        }
     }
 }
 
