@@ -1,5 +1,5 @@
 -- What one action is judged by, and the lowest action of a state: over the numbers of the state and the tables that are walked.
-use Rattle.std.specs.Prelude.{ℕ, ◌+◌, ◌*◌, Bool, not, ◌&&◌, ◌||◌, List, get_or}
+use Rattle.std.specs.Prelude.{ℕ, ◌+◌, ◌*◌, Bool, cond, not, ◌&&◌, ◌||◌, List, Option, None, Some, ltb, get_or}
 use Rattle.std.specs.Bool.{beq}
 use Rattle.walk.specs.Fold.{first, least, sum, any}
 use Rattle.model.specs.declared.kinds.Kind.{Kind}
@@ -51,11 +51,6 @@ unfolding sum
 suits_over k x destinations weights claims lo hi =
     suits_by k (x.scale * x.claim) (expected_of k x.scale x.cost (weighted_over destinations weights claims lo hi))
 
-unfoldable pub keeps_over : Kind → Bool → State → (destinations weights claims ranks : List ℕ) → (lo hi : ℕ) → Bool
-unfolding suits_over any
-keeps_over k asked x destinations weights claims ranks lo hi =
-    kept asked (suits_over k x destinations weights claims lo hi) (falls_over destinations ranks x.rank lo hi)
-
 -- by its number
 unfoldable pub suits_in : Kind → State → Rows → ℕ → Bool
 unfolding suits_over
@@ -70,3 +65,7 @@ falls_in x y a = falls_over y.destinations y.ranks x.rank (get_or y.branch_start
 unfoldable pub lowest_of : Kind → (wanted asked : Bool) → State → Rows → ℕ
 unfolding first suits_in falls_in
 lowest_of k wanted asked x y = first (λ a. beq (kept asked (suits_in k x y a) (falls_in x y a)) wanted) x.first x.end
+
+-- an action, where it is below the end
+abbrev pub below : ℕ → ℕ → Option ℕ
+below a end = cond (ltb a end) (Some a) None

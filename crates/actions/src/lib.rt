@@ -1,14 +1,15 @@
 // One action judged by its branches, and the lowest action of a state that keeps what is asked, or does not.
 #![tactic(auto)]
 
-ghost use Rattle.std.specs.Prelude.{◌≡◌, true, min, length};
-ghost use Rattle.std.specs.Bool.{beq};
+ghost use Rattle.std.specs.Prelude.{◌≡◌, ◌<◌, true, length};
 ghost use Rattle.model.specs.Kinds.{is_at_least};
+ghost use Rattle.model.specs.Tables.{model_in, claim_in};
 ghost use Rattle.model.specs.Conditions.{weighted_over, suits_by};
 ghost use Rattle.actions.specs.Ready.{Weighable, Standing, Walkable};
-ghost use Rattle.actions.specs.Judging.{least_of, rows_of, keeps_over, lowest_of};
+ghost use Rattle.actions.specs.Judging.{least_of, rows_in, kept, suits_in, falls_in, lowest_of, below};
 
-use model::{Kind, Rank};
+use model::{Claim, Kind, Model, Rank};
+use std::ops::Range;
 
 // The numbers of a state: its own, its mark, its actions from the first up to, not with, the end, what their weights add up to,
 // its claim, its cost (0 if the claim has no costs) and its rank (0 if it has no ranks).
@@ -25,16 +26,15 @@ pub struct State {
 }
 
 // The sum over a stretch of branches of weight times the destination's claim.
-fn weighted(lo: usize, hi: usize, destinations: &[u32], weights: &[u32], claims: &[u64]) -> u64
-    requires { Weighable destinations.now weights.now claims.now lo hi }
-    ensures { result ≡ weighted_over destinations.now weights.now claims.now lo hi }
+fn weighted(t: &Model, u: &Claim, stretch: Range<usize>) -> u64
+    requires { let y = rows_in (model_in t.now) (claim_in u.now) in
+        Weighable y.destinations y.weights y.claims stretch.start stretch.end }
+    ensures { let y = rows_in (model_in t.now) (claim_in u.now) in
+        result ≡ weighted_over y.destinations y.weights y.claims stretch.start stretch.end }
 {
     let mut total: u64 = 0;
-    let mut j = lo;
-    while j < hi {
-        let place = destinations[j] as usize;
-        total += (weights[j] as u64) * claims[place];
-        j += 1;
+    for j in stretch {
+        total += (t.weights[j] as u64) * u.claims[t.destinations[j] as usize];
     }
     total
 }
@@ -46,135 +46,76 @@ pub struct Swept {
     pub least: u32,
 }
 
-fn sweep(
-    lo: usize,
-    hi: usize,
-    destinations: &[u32],
-    weights: &[u32],
-    claims: &[u64],
-    ranks: &[u32],
-) -> Swept
-    requires weighable { Weighable destinations.now weights.now claims.now lo hi }
-    requires ranks_len { length ranks.now ≡ length claims.now }
-    ensures sum_value { result.sum ≡ weighted_over destinations.now weights.now claims.now lo hi }
-    ensures least_value { result.least ≡ least_of destinations.now ranks.now lo hi }
+fn sweep(t: &Model, u: &Claim, stretch: Range<usize>) -> Swept
+    requires weighable { let y = rows_in (model_in t.now) (claim_in u.now) in
+        Weighable y.destinations y.weights y.claims stretch.start stretch.end }
+    requires ranks_len { length u.now.ranks.now ≡ length u.now.claims.now }
+    ensures sum_value { let y = rows_in (model_in t.now) (claim_in u.now) in
+        result.sum ≡ weighted_over y.destinations y.weights y.claims stretch.start stretch.end }
+    ensures least_value { result.least ≡ least_of t.now.destinations.now u.now.ranks.now stretch.start stretch.end }
 {
-    let mut total: u64 = 0;
-    let mut least = Rank::NONE;
-    let mut j = lo;
-    while j < hi {
-        let place = destinations[j] as usize;
-        total += (weights[j] as u64) * claims[place];
-        least = lesser(least, ranks[place]);
-        j += 1;
+    let mut swept = Swept {
+        sum: 0,
+        least: Rank::NONE,
+    };
+    for j in stretch {
+        let place = t.destinations[j] as usize;
+        swept.sum += (t.weights[j] as u64) * u.claims[place];
+        swept.least = swept.least.min(u.ranks[place]);
     }
-    Swept { sum: total, least }
-}
-
-fn lesser(a: u32, b: u32) -> u32
-    ensures { result ≡ min a b }
-{
-    if b < a {
-        return b;
-    }
-    a
+    swept
 }
 
 // What is expected is at most what is due, or at least, as the kind asks.
 fn suits(kind: Kind, due: u64, expected: u64) -> bool
     ensures { result ≡ suits_by kind due expected }
 {
-    let bound = kind.bound;
-    if bound.is_at_least() {
-        return due <= expected;
+    if kind.bound.is_at_least() {
+        due <= expected
+    } else {
+        expected <= due
     }
-    expected <= due
 }
 
-// The action of these branches suits and, where 24 is asked, falls. The one routine that judges an action.
-fn judge_action(
-    kind: Kind,
-    asked: bool,
-    state: State,
-    lo: usize,
-    hi: usize,
-    destinations: &[u32],
-    weights: &[u32],
-    claims: &[u64],
-    ranks: &[u32],
-) -> bool
-    requires standing { Standing kind state }
-    requires weighable { Weighable destinations.now weights.now claims.now lo hi }
-    requires ranks_len { asked ≡ true → length ranks.now ≡ length claims.now }
-    ensures { result ≡ keeps_over kind asked state destinations.now weights.now
-        claims.now ranks.now lo hi }
+// Action a suits and, where 24 is asked, falls. The one routine that judges an action.
+fn judge_action(kind: Kind, asked: bool, state: State, t: &Model, u: &Claim, a: u32) -> bool
+    requires walkable { Walkable kind state (rows_in (model_in t.now) (claim_in u.now)) }
+    requires asked_at_least { asked ≡ true → is_at_least kind.bound ≡ true }
+    requires inside { a < state.end }
+    ensures { let y = rows_in (model_in t.now) (claim_in u.now) in
+        result ≡ kept asked (suits_in kind state y a) (falls_in state y a) }
 {
+    let a = a as usize;
+    let stretch = t.branch_starts[a] as usize..t.branch_starts[a + 1] as usize;
     let scale = state.scale as u64;
     let due = scale * state.claim;
     let spent = scale * (state.cost as u64);
     if asked {
-        let swept = sweep(lo, hi, destinations, weights, claims, ranks);
-        if state.rank <= swept.least {
-            return false;
-        }
-        return suits(kind, due, swept.sum + spent);
+        let swept = sweep(t, u, stretch);
+        swept.least < state.rank && suits(kind, due, swept.sum + spent)
+    } else {
+        suits(kind, due, weighted(t, u, stretch) + spent)
     }
-    suits(
-        kind,
-        due,
-        weighted(lo, hi, destinations, weights, claims) + spent,
-    )
 }
 
-// Two tests say the same.
-pub fn agree(a: bool, b: bool) -> bool
-    ensures { result ≡ beq a b }
-{
-    if a {
-        return b;
-    }
-    !b
-}
-
-// The lowest action of a state that suits and, where 24 is asked, falls; or the lowest that does not. The end if there is none.
+// The lowest action of a state that suits and, where 24 is asked, falls; or the lowest that does not, as wanted. None if there is none.
 pub fn lowest(
     kind: Kind,
     wanted: bool,
     asked: bool,
     state: State,
-    branch_starts: &[u32],
-    destinations: &[u32],
-    weights: &[u32],
-    claims: &[u64],
-    ranks: &[u32],
-) -> u32
-    requires walkable { let y = rows_of branch_starts.now destinations.now weights.now claims.now ranks.now in
-        Walkable kind state y }
+    t: &Model,
+    u: &Claim,
+) -> Option<u32>
+    requires walkable { Walkable kind state (rows_in (model_in t.now) (claim_in u.now)) }
     requires asked_at_least { asked ≡ true → is_at_least kind.bound ≡ true }
-    ensures { let y = rows_of branch_starts.now destinations.now weights.now claims.now
-        ranks.now in
-        result ≡ lowest_of kind wanted asked state y }
+    ensures { let y = rows_in (model_in t.now) (claim_in u.now) in
+        result ≡ below (lowest_of kind wanted asked state y) state.end }
 {
-    let end = state.end;
-    let mut a = state.first;
-    while a < end {
-        let lo = branch_starts[a as usize] as usize;
-        let hi = branch_starts[a as usize + 1] as usize;
-        let keeps = judge_action(
-            kind,
-            asked,
-            state,
-            lo,
-            hi,
-            destinations,
-            weights,
-            claims,
-            ranks,
-        );
-        if agree(keeps, wanted) {
-            return a;
+    for a in state.first..state.end {
+        if judge_action(kind, asked, state, t, u, a) == wanted {
+            return Some(a);
         }
-        a += 1;
     }
-    end
+    None
 }

@@ -1,5 +1,5 @@
 -- What the row tests ask of the tables before they count: their lengths, and of the walk over rows that the starts are right.
-use Rattle.std.specs.Prelude.{ℕ, ◌+◌, ◌≤◌, ◌≡◌, List, length}
+use Rattle.std.specs.Prelude.{ℕ, ◌+◌, ◌≤◌, ◌≡◌, length}
 use Rattle.model.specs.Limits.{most_states, most_actions, most_branches}
 use Rattle.model.specs.Tables.{Model, states, branches}
 use Rattle.model.specs.WellFormed.{Starts}
@@ -12,17 +12,10 @@ pub record Fitting (t : Model) : Type 0 where
   pub table4 : branches t ≤ most_branches
   pub table5 : length t.weights ≡ branches t
 
--- a stretch of branches
-pub record Within (destinations weights : List ℕ) (lo hi : ℕ) : Type 0 where
-  pub low : lo ≤ hi
-  pub high : hi ≤ length destinations
-  pub table4 : length destinations ≤ most_branches
-  pub table5 : length weights ≡ length destinations
-
 -- the actions and their branches
-pub record Walkable (branch_starts destinations weights : List ℕ) : Type 0 where
-  pub starts : Starts branch_starts (length destinations)
-  pub table3_least : 2 ≤ length branch_starts
-  pub table3_most : length branch_starts ≤ most_actions + 1
-  pub table4 : length destinations ≤ most_branches
-  pub table5 : length weights ≡ length destinations
+pub record Walkable (t : Model) : Type 0 where
+  pub starts : Starts t.branch_starts (branches t)
+  pub table3_least : 2 ≤ length t.branch_starts
+  pub table3_most : length t.branch_starts ≤ most_actions + 1
+  pub table4 : branches t ≤ most_branches
+  pub table5 : length t.weights ≡ branches t

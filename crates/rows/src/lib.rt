@@ -2,13 +2,12 @@
 #![tactic(auto)]
 
 ghost use Rattle.std.specs.Prelude.{◌≡◌, ◌<◌, ◌^◌, length};
-ghost use Rattle.model.specs.Answers.{pass, tried};
-ghost use Rattle.model.specs.Tables.{model_of};
-ghost use Rattle.model.specs.Refusals.{start_rises, start_ends, start_right, starts_test, marks_test, row_over, row_tests};
-ghost use Rattle.rows.specs.Fitting.{Fitting, Within, Walkable};
-ghost use Rattle.rows.specs.Walk.{walk_over};
+ghost use Rattle.model.specs.Answers.{code, pass, tested, tried};
+ghost use Rattle.model.specs.Tables.{model_in, actions};
+ghost use Rattle.model.specs.Refusals.{start_rises, start_ends, start_right, starts_test, marks_test, action_test, walk_test, row_tests};
+ghost use Rattle.rows.specs.Fitting.{Fitting, Walkable};
 
-use model::{Refusal, Verdict};
+use model::{Fault, Model, Refusal};
 
 // The first start is 0, and any other is above the one before it.
 fn start_rises(starts: &[u32], i: usize) -> bool
@@ -16,9 +15,10 @@ fn start_rises(starts: &[u32], i: usize) -> bool
     ensures { result ≡ start_rises starts.now i }
 {
     if i == 0 {
-        return starts[0] == 0;
+        starts[0] == 0
+    } else {
+        starts[i - 1] < starts[i]
     }
-    starts[i - 1] < starts[i]
 }
 
 // The last start is the end.
@@ -26,10 +26,7 @@ fn start_ends(starts: &[u32], end: usize, i: usize) -> bool
     requires { i < length starts.now }
     ensures { result ≡ start_ends starts.now end i }
 {
-    if i + 1 == starts.len() {
-        return starts[i] as usize == end;
-    }
-    true
+    i + 1 != starts.len() || starts[i] as usize == end
 }
 
 // The first start is 0, any other is above the one before it, and the last is the end.
@@ -37,152 +34,63 @@ fn start_right(starts: &[u32], end: usize, i: usize) -> bool
     requires { i < length starts.now }
     ensures { result ≡ start_right starts.now end i }
 {
-    if start_rises(starts, i) {
-        return start_ends(starts, end, i);
-    }
-    false
+    start_rises(starts, i) && start_ends(starts, end, i)
 }
 
 // 6 and 7: the starts begin at 0, rise strictly and end at the end.
-fn starts_test(number: u32, starts: &[u32], end: usize) -> Verdict
+fn starts_test(refusal: Refusal, starts: &[u32], end: usize) -> Result<(), Fault>
     requires { length starts.now < 2 ^ 32 }
-    ensures { result ≡ starts_test number starts.now end }
+    ensures { tested result ≡ starts_test (code refusal) starts.now end }
 {
-    let mut i = 0;
-    while i < starts.len() {
-        if !start_right(starts, end, i) {
-            return Verdict::Refused {
-                number,
-                place: i as u32,
-            };
-        }
-        i += 1;
-    }
-    Verdict::Accepted { rank: 0 }
+    refusal.where_found((0..starts.len()).find(|i| !start_right(starts, end, *i)))
 }
 
 // 8: a target mark is 0 or 1.
-#[tactic(auto, using(crate::proofs::Marks::mark_stop))]
-fn marks_test(marks: &[u8]) -> Verdict
+fn marks_test(marks: &[u8]) -> Result<(), Fault>
     requires { length marks.now < 2 ^ 32 }
-    ensures { result ≡ marks_test marks.now }
+    ensures { tested result ≡ marks_test marks.now }
 {
-    let mut s = 0;
-    while s < marks.len() {
-        if 1 < marks[s] {
-            return Verdict::Refused {
-                number: Refusal::MARK,
-                place: s as u32,
-            };
-        }
-        s += 1;
-    }
-    Verdict::Accepted { rank: 0 }
+    Refusal::Mark.where_found(marks.iter().position(|mark| 1 < *mark))
 }
 
 // 9 to 11: each destination of action a is a state, each weight is 1 to D, and the weights add up to D.
-#[tactic(auto, using(crate::proofs::Counting::stop_here, crate::proofs::Counting::high))]
-fn action_test(
-    d: u32,
-    n: usize,
-    a: u32,
-    lo: usize,
-    hi: usize,
-    destinations: &[u32],
-    weights: &[u32],
-) -> Verdict
-    requires { Within destinations.now weights.now lo hi }
-    ensures { result ≡ row_over d n destinations.now weights.now a lo hi }
+fn action_test(t: &Model, a: usize) -> Result<(), Fault>
+    requires walkable { Walkable (model_in t.now) }
+    requires inside { a < actions (model_in t.now) }
+    ensures { tested result ≡ action_test (model_in t.now) a }
 {
     let mut total: u64 = 0;
-    let mut j = lo;
-    while j < hi {
-        if n <= destinations[j] as usize {
-            return Verdict::Refused {
-                number: Refusal::DESTINATION,
-                place: j as u32,
-            };
-        }
-        let weight = weights[j];
-        if weight < 1 {
-            return Verdict::Refused {
-                number: Refusal::WEIGHT,
-                place: j as u32,
-            };
-        }
-        if d < weight {
-            return Verdict::Refused {
-                number: Refusal::WEIGHT,
-                place: j as u32,
-            };
-        }
+    for j in t.branch_starts[a] as usize..t.branch_starts[a + 1] as usize {
+        let weight = t.weights[j];
+        Refusal::Destination.unless((t.destinations[j] as usize) < t.marks.len(), j as u32)?;
+        Refusal::Weight.unless(1 <= weight && weight <= t.d, j as u32)?;
         total += weight as u64;
-        j += 1;
     }
-    if total != d as u64 {
-        return Verdict::Refused {
-            number: Refusal::TOTAL,
-            place: a,
-        };
-    }
-    Verdict::Accepted { rank: 0 }
+    Refusal::Total.unless(total == t.d as u64, a as u32)
 }
 
 // 9 to 11 as one walk over the actions in order.
-fn walk_test(
-    d: u32,
-    n: usize,
-    branch_starts: &[u32],
-    destinations: &[u32],
-    weights: &[u32],
-) -> Verdict
-    requires { Walkable branch_starts.now destinations.now weights.now }
-    ensures { result ≡ walk_over d n branch_starts.now destinations.now weights.now }
+fn walk_test(t: &Model) -> Result<(), Fault>
+    requires { Walkable (model_in t.now) }
+    ensures { tested result ≡ walk_test (model_in t.now) }
 {
-    let m = branch_starts.len() - 1;
-    let mut a = 0;
-    while a < m {
-        let lo = branch_starts[a] as usize;
-        let hi = branch_starts[a + 1] as usize;
-        let v = action_test(d, n, a as u32, lo, hi, destinations, weights);
-        if !v.accepts() {
-            return v;
-        }
-        a += 1;
+    for a in 0..t.branch_starts.len() - 1 {
+        action_test(t, a)?;
     }
-    Verdict::Accepted { rank: 0 }
+    Ok(())
 }
 
 // Refusals 6 to 11, in number order; accepted where none stands.
-pub fn count(
-    d: u32,
-    marks: &[u8],
-    action_starts: &[u32],
-    branch_starts: &[u32],
-    destinations: &[u32],
-    weights: &[u32],
-) -> Verdict
-    requires { let t = model_of d marks.now action_starts.now branch_starts.now destinations.now weights.now in
-        Fitting t }
-    ensures { let t = model_of d marks.now action_starts.now branch_starts.now
-        destinations.now weights.now in
-        result ≡ tried (row_tests t) pass }
+pub fn count(t: &Model) -> Result<(), Fault>
+    requires { Fitting (model_in t.now) }
+    ensures { tested result ≡ tried (row_tests (model_in t.now)) pass }
 {
-    let v = starts_test(
-        Refusal::ACTION_STARTS,
-        action_starts,
-        branch_starts.len() - 1,
-    );
-    if !v.accepts() {
-        return v;
-    }
-    let v = starts_test(Refusal::BRANCH_STARTS, branch_starts, destinations.len());
-    if !v.accepts() {
-        return v;
-    }
-    let v = marks_test(marks);
-    if !v.accepts() {
-        return v;
-    }
-    walk_test(d, marks.len(), branch_starts, destinations, weights)
+    starts_test(
+        Refusal::ActionStarts,
+        t.action_starts,
+        t.branch_starts.len() - 1,
+    )?;
+    starts_test(Refusal::BranchStarts, t.branch_starts, t.destinations.len())?;
+    marks_test(t.marks)?;
+    walk_test(t)
 }
