@@ -1,17 +1,17 @@
 -- What the states are judged by, one state by its own numbers, and the room for their choices.
-use Rattle.std.specs.Prelude.{ℕ, ◌≡◌, true, cond, not, ◌&&◌, List, [], ◌∷◌, ◌++◌, T, eqb, drop}
+use Rattle.std.specs.Prelude.{ℕ, ◌≡◌, true, cond, not, ◌&&◌, List, [], ◌∷◌, ◌++◌, Result, Ok, eqb, drop}
 use Rattle.walk.specs.Fold.{first, any, all, listed}
 use Rattle.model.specs.declared.answers.Verdict.{Verdict}
 use Rattle.model.specs.declared.kinds.Kind.{Kind}
 use Rattle.model.specs.Limits.{none}
 use Rattle.model.specs.Kinds.{is_some}
 use Rattle.model.specs.Tables.{Model, Claim, states}
-use Rattle.model.specs.Answers.{pass, tried}
+use Rattle.model.specs.declared.answers.Violation.{Violation}
+use Rattle.model.specs.Answers.{pass, held, tried}
 use Rattle.model.specs.Conditions.{ask, ask_over, target_asks, rank_asks, fall_asked, judged}
 use Rattle.model.specs.Checked.{accepts, choice}
 use Rattle.actions.specs.declared.State.{State}
 use Rattle.actions.specs.Judging.{Rows, suits_in, falls_in, lowest_of}
-use Rattle.conditions.specs.declared.Judged.{Judged}
 
 -- 23
 unfoldable pub verdict23 : Kind → State → Verdict
@@ -48,10 +48,10 @@ unfoldable pub state_choice : Kind → State → Rows → ℕ
 unfolding open_choice
 state_choice k x y = cond (eqb x.mark 1) none (open_choice k x y)
 
--- a state is judged: its verdict and, where it is accepted, its choice
-pub record Judges (v : Verdict) (a : ℕ) (r : Judged) : Type 0 where
-  pub verdict : r.verdict ≡ v
-  pub choice : T (accepts v) → r.choice ≡ a
+-- a state is judged: what is said of it and, where nothing breaks, its choice
+pub record Judges (v : Verdict) (a : ℕ) (r : Result ℕ Violation) : Type 0 where
+  pub verdict : held r ≡ v
+  pub choice : (x : ℕ) → r ≡ Ok x → x ≡ a
 
 -- the choice of a "some" kind, none of an "every" kind
 unfoldable pub picked : Kind → Model → Claim → ℕ → ℕ
