@@ -10,8 +10,7 @@ use Rattle.model.specs.Refusals.{entries, kind_test}
 use Rattle.wire.specs.Words.{word}
 use Rattle.wire.specs.Blocks.{Block, block_of, size, place, block, overwritten}
 use Rattle.certfile.specs.declared.Header.{Header}
-use Rattle.certfile.specs.declared.Outcome.{Outcome}
-use Rattle.certfile.specs.declared.Outcome.TheVariants.{Read, Refused}
+use Rattle.certfile.specs.Outcome.{Outcome, Read, Refused}
 
 -- the number of bytes after it; the version; the kind; D, C, n, m and b
 abbrev pub header_blocks : List Block

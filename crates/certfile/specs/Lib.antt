@@ -1,3 +1,4 @@
+pub mod Outcome
 pub mod File
 pub mod Layout
 pub mod Tables

@@ -2,7 +2,8 @@
 use Rattle.std.specs.Prelude.{ℕ, ◌≤◌, ◌≡◌, List, [], ◌∷◌, length, get_or}
 use Rattle.wire.specs.Blocks.{block}
 use Rattle.certfile.specs.declared.Header.{Header}
-use Rattle.certfile.specs.declared.Outcome.{Outcome}
+use Rattle.certfile.specs.declared.lent.Lent.{Lent}
+use Rattle.certfile.specs.Outcome.{Outcome}
 use Rattle.certfile.specs.File.{announced, outcome_of, table_of}
 
 pub record Tables : Type 0 where
@@ -27,6 +28,22 @@ tables a b c d e f g h =
       claims = g;
       ranks = h;
     }
+
+-- what lent tables hold
+abbrev pub tables_in : Lent → Tables
+tables_in x =
+    tables x.marks.now x.action_starts.now x.branch_starts.now x.destinations.now x.weights.now x.costs.now x.claims.now x.ranks.now
+
+-- the lender's own tables are still those that are lent
+pub record SameTables (before after : Lent) : Type 0 where
+  pub marks : after.marks.ghost_name ≡ before.marks.ghost_name
+  pub action_starts : after.action_starts.ghost_name ≡ before.action_starts.ghost_name
+  pub branch_starts : after.branch_starts.ghost_name ≡ before.branch_starts.ghost_name
+  pub destinations : after.destinations.ghost_name ≡ before.destinations.ghost_name
+  pub weights : after.weights.ghost_name ≡ before.weights.ghost_name
+  pub costs : after.costs.ghost_name ≡ before.costs.ghost_name
+  pub claims : after.claims.ghost_name ≡ before.claims.ghost_name
+  pub ranks : after.ranks.ghost_name ≡ before.ranks.ghost_name
 
 -- the lengths that are lent
 abbrev pub lent : Tables → List ℕ

@@ -6,29 +6,16 @@ ghost use Rattle.certfile.specs.File.{header_blocks, header_of, blocks};
 ghost use Rattle.certfile.specs.Layout.{Small, counts_of, places_of};
 
 use crate::Header;
-use model::{Known, Lengths};
+use model::{Kind, Lengths};
 use wire::Width;
 
-// The tables that not every kind has.
-#[derive(Clone, Copy)]
-struct Optional {
-    costs: bool,
-    ranks: bool,
-}
-
-// Which of them a kind's number has: one that is no kind has neither.
-fn optional_of(kind: u32) -> Optional
-    ensures { (result.costs ≡ (kind_of kind).costs) × (result.ranks ≡ (kind_of kind).ranks) }
+// The tables that not every kind has, costs and ranks: a number that is no kind has neither.
+fn optional_of(kind: u32) -> (bool, bool)
+    ensures { (result.0 ≡ (kind_of kind).costs) × (result.1 ≡ (kind_of kind).ranks) }
 {
-    match model::kind_of(kind) {
-        Known::As(k) => Optional {
-            costs: k.costs,
-            ranks: k.ranks,
-        },
-        Known::Nothing => Optional {
-            costs: false,
-            ranks: false,
-        },
+    match Kind::try_from(kind) {
+        Ok(k) => (k.costs, k.ranks),
+        Err(_) => (false, false),
     }
 }
 
@@ -40,16 +27,16 @@ pub fn counts_of(h: Header) -> Lengths
     let n = h.n as usize;
     let m = h.m as usize;
     let b = h.b as usize;
-    let has = optional_of(h.kind);
+    let (costs, ranks) = optional_of(h.kind);
     Lengths {
         marks: n,
         action_starts: n + 1,
         branch_starts: m + 1,
         destinations: b,
         weights: b,
-        costs: model::entries_of(has.costs, n),
+        costs: model::entries_of(costs, n),
         claims: n,
-        ranks: model::entries_of(has.ranks, n),
+        ranks: model::entries_of(ranks, n),
         choices: 0,
     }
 }

@@ -3,17 +3,20 @@
 
 mod judge;
 mod layout;
+mod lent;
 
 ghost use Rattle.std.specs.Prelude.{◌≡◌};
 ghost use Rattle.certfile.specs.File.{outcome_of};
 ghost use Rattle.certfile.specs.Layout.{listed};
-ghost use Rattle.certfile.specs.Tables.{tables, ReadInto};
+ghost use Rattle.certfile.specs.Outcome.{outcome_in};
+ghost use Rattle.certfile.specs.Tables.{tables_in, ReadInto, SameTables};
 
 pub use layout::{counts_of, length_of};
-use model::Lengths;
+pub use lent::Lent;
+use model::{Fault, Lengths};
 
 // What a file says before its tables.
-#[derive(Clone, Copy)]
+#[derive(Clone, Copy, Debug, PartialEq, Eq)]
 pub struct Header {
     pub kind: u32,
     pub d: u32,
@@ -46,86 +49,43 @@ impl Header {
     pub const VERSION: u8 = 1;
 }
 
-// What reading a file answers.
-#[derive(Clone, Copy)]
-pub enum Outcome {
-    Read(Header),
-    Refused { number: u32, place: u32 },
-}
-
-// Document 01's numbers of the refusals over a file.
-#[derive(Clone, Copy)]
-pub struct FileRefusal {}
-
-impl FileRefusal {
-    pub const LENGTH_FIELD: u32 = 31;
-
-    pub const VERSION: u32 = 32;
-
-    pub const COUNTS: u32 = 33;
-
-    pub const LENGTH: u32 = 34;
-}
-
 // What reading a file into tables of these lengths would answer.
-pub fn preview(file: &[u8], room: Lengths) -> Outcome
-    ensures { result ≡ outcome_of (listed room) file.now }
+pub fn preview(file: &[u8], room: Lengths) -> Result<Header, Fault>
+    ensures { outcome_in result ≡ outcome_of (listed room) file.now }
 {
     judge::judge(file, room)
 }
 
 // Reads a file into lent tables: what it says before them, or the first refusal, which writes nothing.
-pub fn read(
-    file: &[u8],
-    marks: &mut [u8],
-    action_starts: &mut [u32],
-    branch_starts: &mut [u32],
-    destinations: &mut [u32],
-    weights: &mut [u32],
-    costs: &mut [u32],
-    claims: &mut [u64],
-    ranks: &mut [u32],
-) -> Outcome
-    ensures { let before = tables marks.old action_starts.old branch_starts.old
-        destinations.old weights.old costs.old claims.old ranks.old in
-        let after = tables marks.new action_starts.new branch_starts.new
-        destinations.new weights.new costs.new claims.new ranks.new in
-        ReadInto result file.now before after }
+pub fn read(file: &[u8], lent: &mut Lent) -> Result<Header, Fault>
+    ensures read { ReadInto (outcome_in result) file.now (tables_in lent.old) (tables_in lent.new) }
+    ensures same { SameTables lent.old lent.new }
 {
-    let room = Lengths {
-        marks: marks.len(),
-        action_starts: action_starts.len(),
-        branch_starts: branch_starts.len(),
-        destinations: destinations.len(),
-        weights: weights.len(),
-        costs: costs.len(),
-        claims: claims.len(),
-        ranks: ranks.len(),
-        choices: 0,
-    };
-    let outcome = judge::judge(file, room);
-    let Outcome::Read(h) = outcome else {
-        return outcome;
-    };
+    let h = judge::judge(file, lent.lengths())?;
     let count = layout::counts_of(h);
     let place = layout::places_of(h);
-    reader::read8(file, place.marks, marks, count.marks);
+    reader::read8(file, place.marks, lent.marks, count.marks);
     reader::read32(
         file,
         place.action_starts,
-        action_starts,
+        lent.action_starts,
         count.action_starts,
     );
     reader::read32(
         file,
         place.branch_starts,
-        branch_starts,
+        lent.branch_starts,
         count.branch_starts,
     );
-    reader::read32(file, place.destinations, destinations, count.destinations);
-    reader::read32(file, place.weights, weights, count.weights);
-    reader::read32(file, place.costs, costs, count.costs);
-    reader::read64(file, place.claims, claims, count.claims);
-    reader::read32(file, place.ranks, ranks, count.ranks);
-    Outcome::Read(h)
+    reader::read32(
+        file,
+        place.destinations,
+        lent.destinations,
+        count.destinations,
+    );
+    reader::read32(file, place.weights, lent.weights, count.weights);
+    reader::read32(file, place.costs, lent.costs, count.costs);
+    reader::read64(file, place.claims, lent.claims, count.claims);
+    reader::read32(file, place.ranks, lent.ranks, count.ranks);
+    Ok(h)
 }
