@@ -1,6 +1,6 @@
 // What comes back: a refusal or a violation where something is wrong, and one verdict, with the kind of claim beside it.
 ghost use Rattle.std.specs.Prelude.{◌≡◌, ◌^◌, ◌<◌, IfSome};
-ghost use Rattle.model.specs.Answers.{code, asked, number, given, broken, tested, held, require, found};
+ghost use Rattle.model.specs.Answers.{code, asked, number, given, broken, tested, held, then, require, found};
 ghost use Rattle.model.specs.Checked.{accepts};
 ghost use Rattle.model.specs.Conditions.{ask};
 
@@ -141,6 +141,17 @@ impl From<Fault> for Verdict {
     }
 }
 
+impl From<Result<(), Fault>> for Verdict {
+    ghost from_gives = { λ r v. v ≡ tested r };
+
+    fn from(tests: Result<(), Fault>) -> Verdict {
+        match tests {
+            Ok(()) => Verdict::Accepted { rank: 0 },
+            Err(fault) => fault.into(),
+        }
+    }
+}
+
 impl From<Violation> for Verdict {
     ghost from_gives = { λ x v. v ≡ broken x };
 
@@ -168,6 +179,18 @@ impl Verdict {
         match self {
             Verdict::Accepted { .. } => 0,
             Verdict::Refused { number, .. } | Verdict::Violated { number, .. } => number,
+        }
+    }
+
+    // What this says, unless it accepts: then refused with this number at this place, unless it is right.
+    #[tactic(auto, unfolding(crate::specs::Answers::then, crate::specs::Answers::require))]
+    pub fn require(self, right: bool, number: u32, place: u32) -> Verdict
+        ensures { result ≡ then self (require right number place) }
+    {
+        match self {
+            Verdict::Accepted { .. } if right => Verdict::Accepted { rank: 0 },
+            Verdict::Accepted { .. } => Verdict::Refused { number, place },
+            found => found,
         }
     }
 }
