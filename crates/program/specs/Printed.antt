@@ -6,8 +6,7 @@ use Rattle.model.specs.Refusals.{choice_count}
 use Rattle.model.specs.Tables.{Model, Claim}
 use Rattle.model.specs.Checked.{refusal_of, answer_of, choices_of}
 use Rattle.certfile.specs.declared.Header.{Header}
-use Rattle.certfile.specs.declared.Outcome.{Outcome}
-use Rattle.certfile.specs.declared.Outcome.TheVariants.{Read, Refused}
+use Rattle.certfile.specs.Outcome.{Outcome, Read, Refused}
 use Rattle.certfile.specs.File.{outcome_of, table_of}
 use Rattle.certfile.specs.Tables.{Tables, tables}
 use Rattle.certfile.specs.Contents.{table_in, model_in, claim_in}

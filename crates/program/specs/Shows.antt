@@ -5,8 +5,7 @@ use Rattle.model.specs.Answers.{number, then}
 use Rattle.model.specs.Kinds.{kind_of}
 use Rattle.soundness.specs.Demand3.{Holds}
 use Rattle.certfile.specs.declared.Header.{Header}
-use Rattle.certfile.specs.declared.Outcome.{Outcome}
-use Rattle.certfile.specs.declared.Outcome.TheVariants.{Read}
+use Rattle.certfile.specs.Outcome.{Outcome, Read}
 use Rattle.certfile.specs.Tables.{Tables}
 use Rattle.certfile.specs.Contents.{model_in, claim_in}
 use Rattle.program.specs.declared.Told.{Told}

@@ -1,17 +1,18 @@
 // What is printed for a file that is read into lent tables, and what the check program prints.
 #![tactic(auto)]
 
-mod refusal;
-
 ghost use Rattle.std.specs.Prelude.{◌≡◌, ◌+◌, ◌*◌, ◌≤◌, length};
 ghost use Rattle.model.specs.Answers.{number};
 ghost use Rattle.report.specs.Text.{text_of};
-ghost use Rattle.certfile.specs.Tables.{tables, lent};
-ghost use Rattle.program.specs.Printed.{most_file, loaded_of, refused_text, printed_of};
+ghost use Rattle.model.specs.Checked.{refusal_of};
+ghost use Rattle.certfile.specs.Contents.{model_cut, claim_cut};
+ghost use Rattle.certfile.specs.Outcome.{outcome_in};
+ghost use Rattle.certfile.specs.Tables.{tables_in, lent, Roomy, SameTables};
+ghost use Rattle.program.specs.Printed.{most_file, loaded_of, filled_by, chosen_in, refused_text, printed_of};
 ghost use Rattle.program.specs.Shows.{Shows, Long, Unprinted, Answered};
 
-use certfile::{FileRefusal, Header, Outcome};
-use model::{Model, Refusal, Verdict};
+use certfile::{Header, Lent};
+use model::{Fault, Model, Refusal, Verdict};
 use report::Longest;
 use wire::Width;
 
@@ -87,54 +88,38 @@ fn tell(verdict: Verdict, choices: &[u32], text: &mut [u8]) -> Told
     }
 }
 
-// The number where nothing can be printed: that of the refusal over the file or its tables, else 5.
-pub fn unprinted(
-    file: &[u8],
-    marks: &mut [u8],
-    action_starts: &mut [u32],
-    branch_starts: &mut [u32],
-    destinations: &mut [u32],
-    weights: &mut [u32],
-    costs: &mut [u32],
-    claims: &mut [u64],
-    ranks: &mut [u32],
-) -> u32
-    ensures { let before = tables marks.old action_starts.old branch_starts.old
-        destinations.old weights.old costs.old claims.old ranks.old in
-        let after = tables marks.new action_starts.new branch_starts.new
-        destinations.new weights.new costs.new claims.new ranks.new in
-        let o = loaded_of most_file (lent before) file.now in
-        Unprinted o file.now before result after }
+// Reads a file of at most so many bytes into lent tables.
+fn load(most: usize, file: &[u8], tables: &mut Lent) -> Result<Header, Fault>
+    ensures answer { outcome_in result ≡ loaded_of most (lent (tables_in tables.old)) file.now }
+    ensures filled { tables_in tables.new ≡ filled_by (outcome_in result) file.now (tables_in tables.old) }
+    ensures same { SameTables tables.old tables.new }
 {
-    if Whole::BYTES < file.len() {
-        return FileRefusal::COUNTS;
-    }
-    let outcome = certfile::read(
-        file,
-        marks,
-        action_starts,
-        branch_starts,
-        destinations,
-        weights,
-        costs,
-        claims,
-        ranks,
-    );
-    match outcome {
-        Outcome::Read(h) => refusal::refusal(
-            h,
-            marks,
-            action_starts,
-            branch_starts,
-            destinations,
-            weights,
-            costs,
-            claims,
-            ranks,
-        )
-        .require(false, Refusal::LENGTH, 0)
-        .number(),
-        Outcome::Refused { number, place: _ } => number,
+    Refusal::Counts.unless(file.len() <= most, 0)?;
+    certfile::read(file, tables)
+}
+
+// The refusal over the first entries of tables that hold a file, the choice list aside, or a pass.
+fn refusal(h: Header, tables: &Lent) -> Verdict
+    requires { Roomy h (lent (tables_in tables.now)) }
+    ensures { let t = tables_in tables.now in
+        result ≡ refusal_of h.kind (model_cut h t) (claim_cut h t) (chosen_in h) }
+{
+    let chosen = model::choice_count(h.kind, h.n as usize);
+    checker::refuse(h.kind, &tables.model(h), &tables.claim(h), chosen).into()
+}
+
+// The number where nothing can be printed: that of the refusal over the file or its tables, else 5.
+pub fn unprinted(file: &[u8], tables: &mut Lent) -> u32
+    ensures unprinted { let before = tables_in tables.old in
+        let o = loaded_of most_file (lent before) file.now in
+        Unprinted o file.now before result (tables_in tables.new) }
+    ensures same { SameTables tables.old tables.new }
+{
+    match load(Whole::BYTES, file, tables) {
+        Ok(h) => refusal(h, tables)
+            .require(false, Refusal::Length.number(), 0)
+            .number(),
+        Err(fault) => fault.refusal.number(),
     }
 }
 
@@ -142,66 +127,24 @@ pub fn unprinted(
 pub fn answer_within(
     most: usize,
     file: &[u8],
-    marks: &mut [u8],
-    action_starts: &mut [u32],
-    branch_starts: &mut [u32],
-    destinations: &mut [u32],
-    weights: &mut [u32],
-    costs: &mut [u32],
-    claims: &mut [u64],
-    ranks: &mut [u32],
+    tables: &mut Lent,
     choices: &mut [u32],
     text: &mut [u8],
 ) -> Told
-    requires { Long (length marks.old) choices.old text.old }
-    ensures { let before = tables marks.old action_starts.old branch_starts.old
-        destinations.old weights.old costs.old claims.old ranks.old in
-        let after = tables marks.new action_starts.new branch_starts.new
-        destinations.new weights.new costs.new claims.new ranks.new in
+    requires { Long (length tables.old.marks.now) choices.old text.old }
+    ensures answered { let before = tables_in tables.old in
         let o = loaded_of most (lent before) file.now in
-        Answered o file.now before choices.old text.old result
-        after choices.new text.new }
+        Answered o file.now before choices.old text.old result (tables_in tables.new) choices.new text.new }
+    ensures same { SameTables tables.old tables.new }
 {
-    if most < file.len() {
-        let over_long = Verdict::Refused {
-            number: FileRefusal::COUNTS,
-            place: 0,
-        };
-        return tell(over_long, &[], text);
-    }
-    let outcome = certfile::read(
-        file,
-        marks,
-        action_starts,
-        branch_starts,
-        destinations,
-        weights,
-        costs,
-        claims,
-        ranks,
-    );
-    match outcome {
-        Outcome::Read(h) => {
-            let count = certfile::counts_of(h);
-            let chosen = model::choice_count(h.kind, count.marks);
-            let answer = checker::check(
-                h.kind,
-                h.d,
-                h.c,
-                &marks[..count.marks],
-                &action_starts[..count.action_starts],
-                &branch_starts[..count.branch_starts],
-                &destinations[..count.destinations],
-                &weights[..count.weights],
-                &costs[..count.costs],
-                &claims[..count.claims],
-                &ranks[..count.ranks],
-                &mut choices[..chosen],
-            );
-            let verdict = answer.verdict;
-            tell(verdict, &choices[..chosen], text)
+    match load(most, file, tables) {
+        Ok(h) => {
+            let chosen = model::choice_count(h.kind, h.n as usize);
+            let lent = &mut choices[..chosen];
+            let answer = checker::check(h.kind, &tables.model(h), &tables.claim(h), lent);
+            tell(answer.verdict, &choices[..chosen], text)
         }
-        Outcome::Refused { number, place } => tell(Verdict::Refused { number, place }, &[], text),
+        Err(fault) => tell(fault.into(), &[], text),
     }
 }
 
@@ -219,19 +162,15 @@ pub fn answer(file: &[u8], text: &mut [u8]) -> usize
     let mut claims = [0u64; Room::STATES];
     let mut ranks = [0u32; Room::STATES];
     let mut choices = [0u32; Room::STATES];
-    let told = answer_within(
-        Room::BYTES,
-        file,
-        &mut marks,
-        &mut action_starts,
-        &mut branch_starts,
-        &mut destinations,
-        &mut weights,
-        &mut costs,
-        &mut claims,
-        &mut ranks,
-        &mut choices,
-        text,
-    );
-    told.bytes
+    let mut tables = Lent {
+        marks: &mut marks,
+        action_starts: &mut action_starts,
+        branch_starts: &mut branch_starts,
+        destinations: &mut destinations,
+        weights: &mut weights,
+        costs: &mut costs,
+        claims: &mut claims,
+        ranks: &mut ranks,
+    };
+    answer_within(Room::BYTES, file, &mut tables, &mut choices, text).bytes
 }

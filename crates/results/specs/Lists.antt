@@ -1,15 +1,19 @@
 -- What the lists that take results hold afterwards, the numbers that stand for a file that is read or written, and the lists' lengths.
-use Rattle.std.specs.Prelude.{ℕ, ◌+◌, ◌*◌, Bool, ◌&&◌, List, [], ◌∷◌, eqb, leb}
+use Rattle.std.specs.Prelude.{ℕ, ◌+◌, ◌*◌, Bool, ◌&&◌, List, [], ◌∷◌, Result, Ok, Err, eqb, leb}
 use Rattle.model.specs.declared.answers.Answer.{Answer}
-use Rattle.model.specs.Answers.{number, value, action}
-use Rattle.certfile.specs.declared.Outcome.{Outcome}
-use Rattle.certfile.specs.declared.Outcome.TheVariants.{Read, Refused}
-use Rattle.writer.specs.declared.Written.{Written}
-use Rattle.writer.specs.declared.Written.TheVariants.{Length, Refused as Unwritten}
+use Rattle.model.specs.declared.answers.Fault.{Fault}
+use Rattle.model.specs.Answers.{code, number, value, action}
+use Rattle.certfile.specs.Outcome.{Outcome, Read, Refused}
+use Rattle.writer.specs.Written.{Written, Length, Refused as Unwritten}
 
 -- an answer in four numbers: number; R, place or state; action or none; kind
 abbrev pub numbers_of : Answer → List ℕ
 numbers_of r = number r.verdict ∷ value r.verdict ∷ action r.verdict ∷ r.kind ∷ []
+
+-- the number of a refusal, or this one where there is none
+abbrev pub refusal_or : {A : Type 0} → ℕ → Result A Fault → ℕ
+refusal_or number (Ok x) = number
+refusal_or number (Err f) = code f.refusal
 
 -- the number of a refusal, or the one that stands for a file that is read
 unfoldable pub number_or : ℕ → Outcome → ℕ

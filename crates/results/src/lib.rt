@@ -3,11 +3,12 @@
 
 ghost use Rattle.std.specs.Prelude.{◌≡◌, [], ◌∷◌, length};
 ghost use Rattle.model.specs.Answers.{number, value, action};
-ghost use Rattle.results.specs.Lists.{numbers_of, number_or, header_after, written_or, pair_of, lists_right};
+ghost use Rattle.certfile.specs.Outcome.{outcome_in};
+ghost use Rattle.writer.specs.Written.{written_in};
+ghost use Rattle.results.specs.Lists.{numbers_of, refusal_or, header_after, pair_of, lists_right};
 
-use certfile::Outcome;
-use model::{Answer, Rank, Verdict};
-use writer::Written;
+use certfile::Header;
+use model::{Answer, Fault, Rank, Verdict};
 
 // The length of the list that takes an answer.
 #[derive(Clone, Copy)]
@@ -17,33 +18,14 @@ impl AnswerList {
     pub const COUNT: usize = 4;
 }
 
-// What a verdict has beside its number.
-#[derive(Clone, Copy)]
-struct Values {
-    value: u32,
-    action: u32,
-}
-
-fn values_of(v: Verdict) -> Values
-    ensures { (result.value ≡ value v) × (result.action ≡ action v) }
+// What a verdict has beside its number: R, the place or the state, and then the action or none.
+fn values_of(v: Verdict) -> (u32, u32)
+    ensures { (result.0 ≡ value v) × (result.1 ≡ action v) }
 {
     match v {
-        Verdict::Accepted { rank } => Values {
-            value: rank,
-            action: Rank::NONE,
-        },
-        Verdict::Refused { number: _, place } => Values {
-            value: place,
-            action: Rank::NONE,
-        },
-        Verdict::Violated {
-            number: _,
-            state,
-            action,
-        } => Values {
-            value: state,
-            action,
-        },
+        Verdict::Accepted { rank } => (rank, Rank::NONE),
+        Verdict::Refused { place, .. } => (place, Rank::NONE),
+        Verdict::Violated { state, action, .. } => (state, action),
     }
 }
 
@@ -53,12 +35,11 @@ pub fn put(r: Answer, answer: &mut [u32]) -> u32
     ensures number { result ≡ number r.verdict }
     ensures answer { answer.new ≡ numbers_of r }
 {
-    let verdict = r.verdict;
-    let number = verdict.number();
-    let x = values_of(verdict);
+    let number = r.verdict.number();
+    let (value, action) = values_of(r.verdict);
     answer[0] = number;
-    answer[1] = x.value;
-    answer[2] = x.action;
+    answer[1] = value;
+    answer[2] = action;
     answer[3] = r.kind;
     number
 }
@@ -71,30 +52,24 @@ impl HeaderList {
     pub const COUNT: usize = 6;
 }
 
-// The number of a refusal, or this one where a file is read.
-pub fn number_or(o: Outcome, read: u32) -> u32
-    ensures { result ≡ number_or read o }
+// The number of a refusal, or this one where a file is read or written.
+pub fn number_or<T: Copy>(done: Result<T, Fault>, number: u32) -> u32
+    ensures { result ≡ refusal_or number done }
 {
-    match o {
-        Outcome::Read(_) => read,
-        Outcome::Refused { number, place: _ } => number,
+    match done {
+        Ok(_) => number,
+        Err(fault) => fault.refusal.number(),
     }
 }
 
 // Writes what a file says before its tables into a list of six: a refusal leaves it alone.
-pub fn put_header(o: Outcome, header: &mut [u32])
+pub fn put_header(read: Result<Header, Fault>, header: &mut [u32])
     requires { length header.old ≡ 6 }
-    ensures { header.new ≡ header_after o header.old }
+    ensures { header.new ≡ header_after (outcome_in read) header.old }
 {
-    let Outcome::Read(h) = o else {
-        return;
-    };
-    header[0] = h.kind;
-    header[1] = h.d;
-    header[2] = h.c;
-    header[3] = h.n;
-    header[4] = h.m;
-    header[5] = h.b;
+    if let Ok(h) = read {
+        header.copy_from_slice(&[h.kind, h.d, h.c, h.n, h.m, h.b]);
+    }
 }
 
 // The length of the list that takes what writing answers.
@@ -103,16 +78,6 @@ pub struct ResultList {}
 
 impl ResultList {
     pub const COUNT: usize = 2;
-}
-
-// The number of a refusal, or this one where a file is written.
-pub fn written_or(w: Written, written: u32) -> u32
-    ensures { result ≡ written_or written w }
-{
-    match w {
-        Written::Length { bytes: _ } => written,
-        Written::Refused { number, place: _ } => number,
-    }
 }
 
 // Writes two numbers into a list of two.
@@ -125,13 +90,13 @@ pub fn put_two(first: u64, second: u64, res: &mut [u64])
 }
 
 // Writes what writing answered into a list of two.
-pub fn put_written(w: Written, res: &mut [u64])
+pub fn put_written(written: Result<usize, Fault>, res: &mut [u64])
     requires { length res.old ≡ 2 }
-    ensures { res.new ≡ pair_of w }
+    ensures { res.new ≡ pair_of (written_in written) }
 {
-    match w {
-        Written::Length { bytes } => put_two(0, bytes as u64, res),
-        Written::Refused { number, place } => put_two(number as u64, place as u64, res),
+    match written {
+        Ok(bytes) => put_two(0, bytes as u64, res),
+        Err(fault) => put_two(fault.refusal.number() as u64, fault.place as u64, res),
     }
 }
 
@@ -139,11 +104,5 @@ pub fn put_written(w: Written, res: &mut [u64])
 pub fn lists_right(states: usize, choices: usize, text: usize, res: usize) -> bool
     ensures { result ≡ lists_right states choices text res }
 {
-    if res != ResultList::COUNT {
-        return false;
-    }
-    if choices < states {
-        return false;
-    }
-    report::has_room(states, text)
+    res == ResultList::COUNT && states <= choices && report::has_room(states, text)
 }

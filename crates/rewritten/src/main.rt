@@ -2,16 +2,15 @@
 // the file's.
 #![tactic(auto)]
 
-ghost use Rattle.std.specs.Prelude.{◌≡◌, ℕ, ◌+◌, ◌≤◌, ◌<◌, ◌^◌, length};
-ghost use Rattle.writer.specs.declared.Written.TheVariants.{Length};
+ghost use Rattle.std.specs.Prelude.{◌+◌, ◌≤◌, ◌<◌, ◌^◌, length, IfOk};
 
-use certfile::{FileRefusal, Outcome};
+use certfile::Lent;
+use model::{Fault, Refusal};
 use program::Room;
 use report::Longest;
 use std::io;
 use std::io::{Stdin, Stdout, Write};
 use stream::Next;
-use writer::Written;
 
 // Each of these puts a line at the beginning of the text, and answers its length: a word and a number.
 fn counted(word: &[u8], n: u32, text: &mut [u8]) -> usize
@@ -35,26 +34,10 @@ fn compared(file: &[u8], written: &[u8], text: &mut [u8]) -> usize
     counted(b"differs", bytes, text)
 }
 
-// What came of writing a file into the buffer.
-fn told(answer: Written, file: &[u8], buffer: &[u8], text: &mut [u8]) -> usize
-    requires by_index { (n : ℕ) → answer ≡ Length n → n ≤ length buffer.now }
-    requires buffer_len_bound { (length buffer.now < 2 ^ 32) × (64 ≤ length text.old) }
-    ensures { result ≤ length text.new }
-{
-    match answer {
-        Written::Length { bytes } => compared(file, &buffer[..bytes], text),
-        Written::Refused { number, place } => program::refused(number, place, text),
-    }
-}
-
 // Reads a file into the check program's room, and writes what it holds there, each table cut as the header counts it.
-fn rewritten(file: &[u8], text: &mut [u8]) -> usize
-    requires { 64 ≤ length text.old }
-    ensures { result ≤ length text.new }
+fn rewrite(file: &[u8], buffer: &mut [u8]) -> Result<usize, Fault>
+    ensures { IfOk result (λ n. n ≤ length buffer.new) }
 {
-    if Room::BYTES < file.len() {
-        return program::refused(FileRefusal::COUNTS, 0, text);
-    }
     let mut marks = [0u8; Room::STATES];
     let mut action_starts = [0u32; Room::STATES + 1];
     let mut branch_starts = [0u32; Room::ACTIONS + 1];
@@ -63,38 +46,30 @@ fn rewritten(file: &[u8], text: &mut [u8]) -> usize
     let mut costs = [0u32; Room::STATES];
     let mut claims = [0u64; Room::STATES];
     let mut ranks = [0u32; Room::STATES];
+    let mut tables = Lent {
+        marks: &mut marks,
+        action_starts: &mut action_starts,
+        branch_starts: &mut branch_starts,
+        destinations: &mut destinations,
+        weights: &mut weights,
+        costs: &mut costs,
+        claims: &mut claims,
+        ranks: &mut ranks,
+    };
+    Refusal::Counts.unless(file.len() <= Room::BYTES, 0)?;
+    let h = certfile::read(file, &mut tables)?;
+    writer::write(h.kind, &tables.model(h), &tables.claim(h), buffer)
+}
+
+// What came of writing the file anew.
+fn rewritten(file: &[u8], text: &mut [u8]) -> usize
+    requires { 64 ≤ length text.old }
+    ensures { result ≤ length text.new }
+{
     let mut buffer = [0u8; Room::BYTES];
-    let outcome = certfile::read(
-        file,
-        &mut marks,
-        &mut action_starts,
-        &mut branch_starts,
-        &mut destinations,
-        &mut weights,
-        &mut costs,
-        &mut claims,
-        &mut ranks,
-    );
-    match outcome {
-        Outcome::Read(h) => {
-            let count = certfile::counts_of(h);
-            let answer = writer::write(
-                h.kind,
-                h.d,
-                h.c,
-                &marks[..count.marks],
-                &action_starts[..count.action_starts],
-                &branch_starts[..count.branch_starts],
-                &destinations[..count.destinations],
-                &weights[..count.weights],
-                &costs[..count.costs],
-                &claims[..count.claims],
-                &ranks[..count.ranks],
-                &mut buffer,
-            );
-            told(answer, file, &buffer, text)
-        }
-        Outcome::Refused { number, place } => program::refused(number, place, text),
+    match rewrite(file, &mut buffer) {
+        Ok(bytes) => compared(file, &buffer[..bytes], text),
+        Err(fault) => program::refused(fault.refusal.number(), fault.place, text),
     }
 }
 

@@ -5,8 +5,7 @@ use Rattle.model.specs.Answers.{number, then}
 use Rattle.model.specs.Kinds.{kind_of}
 use Rattle.soundness.specs.Demand3.{Holds}
 use Rattle.certfile.specs.declared.Header.{Header}
-use Rattle.certfile.specs.declared.Outcome.{Outcome}
-use Rattle.certfile.specs.declared.Outcome.TheVariants.{Read}
+use Rattle.certfile.specs.Outcome.{Outcome, Read}
 use Rattle.certfile.specs.Tables.{Tables, lent}
 use Rattle.certfile.specs.Contents.{model_in, claim_in}
 use Rattle.program.specs.Printed.{most_file, loaded_of, refusal_in, verdict_in, read_text, choices_in, chosen_in, filled_by}

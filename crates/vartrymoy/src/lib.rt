@@ -11,7 +11,8 @@ ghost use Rattle.vartrymoy.specs.Exported.{CheckedInto};
 ghost use Rattle.vartrymoy.specs.Filled.{FileReadInto};
 ghost use Rattle.vartrymoy.specs.Written.{FileWrittenInto};
 
-use model::{Lengths, Refusal};
+use certfile::Lent;
+use model::{Claim, Model, Refusal, Verdict};
 use program::Whole;
 use results::{AnswerList, HeaderList, ResultList};
 
@@ -38,40 +39,25 @@ pub extern "C" fn vartrymoy_check(
         let u = claim_of c costs.now claims.now ranks.now in
         CheckedInto kind t u choices.old answer.old result choices.new answer.new }
 {
+    let t = Model {
+        d,
+        marks,
+        action_starts,
+        branch_starts,
+        destinations,
+        weights,
+    };
+    let u = Claim {
+        c,
+        costs,
+        claims,
+        ranks,
+    };
     if answer.len() != AnswerList::COUNT {
-        let refusal = checker::refuse(
-            kind,
-            d,
-            c,
-            marks,
-            action_starts,
-            branch_starts,
-            destinations,
-            weights,
-            costs,
-            claims,
-            ranks,
-            choices.len(),
-        );
-        return refusal.require(false, Refusal::LENGTH, 0).number();
+        let refusal = Verdict::from(checker::refuse(kind, &t, &u, choices.len()));
+        return refusal.require(false, Refusal::Length.number(), 0).number();
     }
-    results::put(
-        checker::check(
-            kind,
-            d,
-            c,
-            marks,
-            action_starts,
-            branch_starts,
-            destinations,
-            weights,
-            costs,
-            claims,
-            ranks,
-            choices,
-        ),
-        answer,
-    )
+    results::put(checker::check(kind, &t, &u, choices), answer)
 }
 
 // Reads a file into the lent tables, as certfile::read does, and answers 0 or the number of the refusal.
@@ -94,22 +80,7 @@ pub extern "C" fn vartrymoy_read(
         destinations.new weights.new costs.new claims.new ranks.new in
         FileReadInto file.now header.old before result header.new after }
 {
-    if header.len() != HeaderList::COUNT {
-        let room = Lengths {
-            marks: marks.len(),
-            action_starts: action_starts.len(),
-            branch_starts: branch_starts.len(),
-            destinations: destinations.len(),
-            weights: weights.len(),
-            costs: costs.len(),
-            claims: claims.len(),
-            ranks: ranks.len(),
-            choices: 0,
-        };
-        return results::number_or(certfile::preview(file, room), Refusal::LENGTH);
-    }
-    let outcome = certfile::read(
-        file,
+    let mut tables = Lent {
         marks,
         action_starts,
         branch_starts,
@@ -118,9 +89,14 @@ pub extern "C" fn vartrymoy_read(
         costs,
         claims,
         ranks,
-    );
-    results::put_header(outcome, header);
-    results::number_or(outcome, 0)
+    };
+    if header.len() != HeaderList::COUNT {
+        let would = certfile::preview(file, tables.lengths());
+        return results::number_or(would, Refusal::Length.number());
+    }
+    let read = certfile::read(file, &mut tables);
+    results::put_header(read, header);
+    results::number_or(read, 0)
 }
 
 // Writes the file that the lent tables make into a lent buffer, as writer::write does, and answers 0 or the number of the refusal.
@@ -145,39 +121,27 @@ pub extern "C" fn vartrymoy_write(
         let u = claim_of c costs.now claims.now ranks.now in
         FileWrittenInto kind t u buffer.old res.old result buffer.new res.new }
 {
-    if res.len() != ResultList::COUNT {
-        let would = writer::preview(
-            kind,
-            d,
-            c,
-            marks,
-            action_starts,
-            branch_starts,
-            destinations,
-            weights,
-            costs,
-            claims,
-            ranks,
-            buffer.len(),
-        );
-        return results::written_or(would, Refusal::LENGTH);
-    }
-    let written = writer::write(
-        kind,
+    let t = Model {
         d,
-        c,
         marks,
         action_starts,
         branch_starts,
         destinations,
         weights,
+    };
+    let u = Claim {
+        c,
         costs,
         claims,
         ranks,
-        buffer,
-    );
+    };
+    if res.len() != ResultList::COUNT {
+        let would = writer::preview(kind, &t, &u, buffer.len());
+        return results::number_or(would, Refusal::Length.number());
+    }
+    let written = writer::write(kind, &t, &u, buffer);
     results::put_written(written, res);
-    results::written_or(written, 0)
+    results::number_or(written, 0)
 }
 
 // Reads a file into the lent tables, checks it, puts what is printed at the beginning of the text, and answers its number.
@@ -206,22 +170,8 @@ pub extern "C" fn vartrymoy_answer(
         before choices.old text.old res.old result
         after choices.new text.new res.new }
 {
-    if !results::lists_right(marks.len(), choices.len(), text.len(), res.len()) {
-        return program::unprinted(
-            file,
-            marks,
-            action_starts,
-            branch_starts,
-            destinations,
-            weights,
-            costs,
-            claims,
-            ranks,
-        );
-    }
-    let told = program::answer_within(
-        Whole::BYTES,
-        file,
+    let right = results::lists_right(marks.len(), choices.len(), text.len(), res.len());
+    let mut tables = Lent {
         marks,
         action_starts,
         branch_starts,
@@ -230,9 +180,11 @@ pub extern "C" fn vartrymoy_answer(
         costs,
         claims,
         ranks,
-        choices,
-        text,
-    );
+    };
+    if !right {
+        return program::unprinted(file, &mut tables);
+    }
+    let told = program::answer_within(Whole::BYTES, file, &mut tables, choices, text);
     results::put_two(told.number as u64, told.bytes as u64, res);
     told.number
 }

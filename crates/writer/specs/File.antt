@@ -9,8 +9,7 @@ use Rattle.wire.specs.Blocks.{size}
 use Rattle.wire.specs.Sections.{Section, sections_of, written}
 use Rattle.certfile.specs.declared.Header.{Header}
 use Rattle.certfile.specs.File.{blocks}
-use Rattle.writer.specs.declared.Written.{Written}
-use Rattle.writer.specs.declared.Written.TheVariants.{Length, Refused}
+use Rattle.writer.specs.Written.{Written, Length, Refused}
 
 -- what the file says before its tables
 abbrev pub header : (kind d c n m b : ℕ) → Header

@@ -1,3 +1,4 @@
+pub mod Written
 pub mod File
 pub mod Room
 pub mod RoundTrip

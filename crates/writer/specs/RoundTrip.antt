@@ -1,8 +1,7 @@
 -- What a round trip gives, stated over the promises of the reader and of the writer.
 use Rattle.std.specs.Prelude.{ℕ, ◌≤◌, ◌≡◌, length}
 use Rattle.model.specs.Tables.{Model, Claim}
-use Rattle.certfile.specs.declared.Outcome.{Outcome}
-use Rattle.certfile.specs.declared.Outcome.TheVariants.{Read}
+use Rattle.certfile.specs.Outcome.{Outcome, Read}
 use Rattle.certfile.specs.Tables.{Tables}
 use Rattle.writer.specs.File.{header_for, overlaid}
 

@@ -1,45 +1,33 @@
 // The certificate file of document 01, written into a lent buffer.
 #![tactic(auto)]
 
-ghost use Rattle.std.specs.Prelude.{◌≡◌, ◌-◌, ◌≤◌, ◌<◌, ◌^◌};
+ghost use Rattle.std.specs.Prelude.{◌≡◌, ◌≤◌, ◌<◌, ◌^◌, length};
 ghost use Rattle.walk.specs.Put.{Put};
-ghost use Rattle.model.specs.Tables.{model_of, claim_of};
+ghost use Rattle.model.specs.Tables.{model_in, claim_in};
 ghost use Rattle.wire.specs.Sections.{sections_of, written};
 ghost use Rattle.certfile.specs.File.{header_blocks};
-ghost use Rattle.writer.specs.File.{header, heads, answered, written_of, WrittenInto};
+ghost use Rattle.writer.specs.File.{header_for, heads, written_of, WrittenInto};
 ghost use Rattle.writer.specs.Room.{HeadRoom};
+ghost use Rattle.writer.specs.Written.{written_in};
 
 use certfile::Header;
-use model::Verdict;
+use model::{Claim, Fault, Model, Refusal};
 use wire::Width;
 
-// What writing a file answers.
-#[derive(Clone, Copy)]
-pub enum Written {
-    Length { bytes: usize },
-    Refused { number: u32, place: u32 },
-}
-
-// The number of the refusal that the writer adds to document 01's.
-#[derive(Clone, Copy)]
-pub struct WriteRefusal {}
-
-impl WriteRefusal {
-    pub const BUFFER: u32 = 35;
-}
-
-// What a file says before its tables, by the lengths of tables 1, 3 and 4.
-fn header(kind: u32, d: u32, c: u32, n: usize, starts: usize, b: usize) -> Header
-    requires { (n < 2 ^ 32) × ((1 ≤ starts) × ((starts ≤ 2 ^ 32) × (b < 2 ^ 32))) }
-    ensures { result ≡ header kind d c n (starts - 1) b }
+// What a file says before its tables.
+fn header(kind: u32, t: &Model, u: &Claim) -> Header
+    requires states { length t.now.marks.now < 2 ^ 32 }
+    requires actions { (1 ≤ length t.now.branch_starts.now) × (length t.now.branch_starts.now ≤ 2 ^ 32) }
+    requires branches { length t.now.destinations.now < 2 ^ 32 }
+    ensures { result ≡ header_for kind (model_in t.now) (claim_in u.now) }
 {
     Header {
         kind,
-        d,
-        c,
-        n: n as u32,
-        m: (starts - 1) as u32,
-        b: b as u32,
+        d: t.d,
+        c: u.c,
+        n: t.marks.len() as u32,
+        m: (t.branch_starts.len() - 1) as u32,
+        b: t.destinations.len() as u32,
     }
 }
 
@@ -56,134 +44,31 @@ fn head(file: &mut [u8], h: Header, bytes: usize) -> usize
     wire::spell32(file, rest, &numbers)
 }
 
-// The answer that a verdict gives.
-fn answered(bytes: usize, v: Verdict) -> Written
-    ensures { result ≡ answered bytes v }
-{
-    match v {
-        Verdict::Accepted { rank: _ } => Written::Length { bytes },
-        Verdict::Refused { number, place } => Written::Refused { number, place },
-        Verdict::Violated {
-            number,
-            state,
-            action: _,
-        } => Written::Refused {
-            number,
-            place: state,
-        },
-    }
-}
-
 // What writing the file into a buffer of so many bytes would answer: its length, or the first refusal: 1 to 14 as the checker gives
 // them, with the choice list aside, and then 35.
-pub fn preview(
-    kind: u32,
-    d: u32,
-    c: u32,
-    marks: &[u8],
-    action_starts: &[u32],
-    branch_starts: &[u32],
-    destinations: &[u32],
-    weights: &[u32],
-    costs: &[u32],
-    claims: &[u64],
-    ranks: &[u32],
-    buffer: usize,
-) -> Written
-    ensures { let t = model_of d marks.now action_starts.now branch_starts.now
-        destinations.now weights.now in
-        let u = claim_of c costs.now claims.now ranks.now in
-        result ≡ written_of kind t u buffer }
+pub fn preview(kind: u32, t: &Model, u: &Claim, buffer: usize) -> Result<usize, Fault>
+    ensures { written_in result ≡ written_of kind (model_in t.now) (claim_in u.now) buffer }
 {
-    let chosen = model::choice_count(kind, marks.len());
-    let v = checker::refuse(
-        kind,
-        d,
-        c,
-        marks,
-        action_starts,
-        branch_starts,
-        destinations,
-        weights,
-        costs,
-        claims,
-        ranks,
-        chosen,
-    );
-    if !v.accepts() {
-        return answered(0, v);
-    }
-    let bytes = certfile::length_of(header(
-        kind,
-        d,
-        c,
-        marks.len(),
-        branch_starts.len(),
-        destinations.len(),
-    ));
-    if buffer < bytes {
-        return Written::Refused {
-            number: WriteRefusal::BUFFER,
-            place: 0,
-        };
-    }
-    Written::Length { bytes }
+    checker::refuse(kind, t, u, model::choice_count(kind, t.marks.len()))?;
+    let bytes = certfile::length_of(header(kind, t, u));
+    Refusal::Buffer.unless(bytes <= buffer, 0)?;
+    Ok(bytes)
 }
 
-// Writes the file that the lent tables make into a lent buffer and answers its length, or the first refusal, which writes nothing.
-#[tactic(auto, using(crate::proofs::Judged::left))]
-pub fn write(
-    kind: u32,
-    d: u32,
-    c: u32,
-    marks: &[u8],
-    action_starts: &[u32],
-    branch_starts: &[u32],
-    destinations: &[u32],
-    weights: &[u32],
-    costs: &[u32],
-    claims: &[u64],
-    ranks: &[u32],
-    buffer: &mut [u8],
-) -> Written
-    ensures { let t = model_of d marks.now action_starts.now branch_starts.now
-        destinations.now weights.now in
-        let u = claim_of c costs.now claims.now ranks.now in
-        WrittenInto result kind t u buffer.old buffer.new }
+// Writes the file that the lent tables make into a lent buffer, from its front on, and answers its length; or the first refusal, which
+// writes nothing.
+pub fn write(kind: u32, t: &Model, u: &Claim, buffer: &mut [u8]) -> Result<usize, Fault>
+    ensures { WrittenInto (written_in result) kind (model_in t.now) (claim_in u.now) buffer.old buffer.new }
 {
-    let written = preview(
-        kind,
-        d,
-        c,
-        marks,
-        action_starts,
-        branch_starts,
-        destinations,
-        weights,
-        costs,
-        claims,
-        ranks,
-        buffer.len(),
-    );
-    let Written::Length { bytes } = written else {
-        return written;
-    };
-    let h = header(
-        kind,
-        d,
-        c,
-        marks.len(),
-        branch_starts.len(),
-        destinations.len(),
-    );
-    let at = head(buffer, h, bytes);
-    let at = wire::copy8(buffer, at, marks);
-    let at = wire::spell32(buffer, at, action_starts);
-    let at = wire::spell32(buffer, at, branch_starts);
-    let at = wire::spell32(buffer, at, destinations);
-    let at = wire::spell32(buffer, at, weights);
-    let at = wire::spell32(buffer, at, costs);
-    let at = wire::spell64(buffer, at, claims);
-    wire::spell32(buffer, at, ranks);
-    Written::Length { bytes }
+    let bytes = preview(kind, t, u, buffer.len())?;
+    let at = head(buffer, header(kind, t, u), bytes);
+    let at = wire::copy8(buffer, at, t.marks);
+    let at = wire::spell32(buffer, at, t.action_starts);
+    let at = wire::spell32(buffer, at, t.branch_starts);
+    let at = wire::spell32(buffer, at, t.destinations);
+    let at = wire::spell32(buffer, at, t.weights);
+    let at = wire::spell32(buffer, at, u.costs);
+    let at = wire::spell64(buffer, at, u.claims);
+    wire::spell32(buffer, at, u.ranks);
+    Ok(bytes)
 }
