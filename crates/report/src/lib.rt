@@ -25,6 +25,7 @@ const NEWLINE: u8 = b'\n';
 const DASH: u8 = b'-';
 
 // A lent text, and the place up to which it is written. Each method writes from there on.
+// It is no fmt::Write: what std promises of `write!` holds where it answers Ok, and nothing says that it does, but `print` never fails.
 #[derive(Drop)]
 struct Text<'a> {
     bytes: &'a mut [u8],

@@ -11,16 +11,15 @@ unfolding head_of line
 returns-clause-put c =
     elim c.match-verdict.branch [
       | in-Accepted w ↦
-          put_same (put_then (put_then w.word.ensures.put w.spaced.ensures.put) (rw w.self-is at c.byte.ensures.put))
+          let words = put_then w.word.ensures.put w.spaced.ensures.put in
+          put_same (put_then words (rw w.self-is at c.byte.ensures.put))
           ((simp append_assoc) ∙ sym (ap head_of w.in-Accepted.is))
       | in-Refused w ↦
-          put_same
-          (put_then (put_then (put_then w.word-in-Refused.ensures.put w.spaced-in-Refused.ensures.put) w.spaced-in-Refused-2.ensures.put) (rw w.self-is at c.byte.ensures.put))
+          let words = put_then (put_then w.word-in-Refused.ensures.put w.spaced-in-Refused.ensures.put) w.spaced-in-Refused-2.ensures.put in
+          put_same (put_then words (rw w.self-is at c.byte.ensures.put))
           ((simp append_assoc) ∙ sym (ap head_of w.in-Refused.is))
       | in-Violated w ↦
-          put_same
-          (put_then
-          (put_then (put_then (put_then w.word-in-Violated.ensures.put w.spaced-in-Violated.ensures.put) w.spaced-in-Violated-2.ensures.put) w.action.ensures.put)
-          (rw w.self-is at c.byte.ensures.put))
+          let numbers = put_then (put_then w.word-in-Violated.ensures.put w.spaced-in-Violated.ensures.put) w.spaced-in-Violated-2.ensures.put in
+          put_same (put_then (put_then numbers w.action.ensures.put) (rw w.self-is at c.byte.ensures.put))
           ((simp append_assoc) ∙ sym (ap head_of w.in-Violated.is))
     ]

@@ -1,4 +1,4 @@
--- `report::Text::line` meets its contract. Assumes nothing.
+-- `report::Text::line` meets its contract: a number, an action and a newline go in one after the other. Assumes nothing.
 use mathlib.Core.List.{append_assoc}
 use Rattle.report.specs.Text.{line, line_of}
 use Rattle.walk.proofs.Putting.{put_then, put_same}

@@ -1,4 +1,4 @@
--- `report::Text::lines`: one line after the other.
+-- `report::Text::lines`: the text is the same lent one, and holds the lines of the states below i.
 use lib.ListN.{length, get_or}
 use Rattle.report.specs.Text.{line_of}
 use Rattle.report.specs.Puts.{Same}
