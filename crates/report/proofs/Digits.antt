@@ -1,64 +1,48 @@
--- How many bytes numbers and lines take, and a number's digits by its last one. Assumes nothing.
-use mathlib.Core.Path.{◌≡◌, refl}
-use mathlib.Core.Bool.{Bool, true, false}
+-- Std's digits of a number are document 01's, and how many bytes numbers take. Assumes nothing.
+use mathlib.Core.Path.{◌≡◌, refl, sym, ap}
+use mathlib.Core.Bool.{true, false}
 use mathlib.Core.List.{List, [], ◌∷◌, ◌++◌}
-use Prim.Native.Nat.{ℕ, zero, suc, ◌+◌, ◌/◌, ◌%◌, ◌^◌, ◌≤◌, ◌<◌}
-use native.Mathlib.Nat.{pow-suc}
+use Prim.Native.Nat.{ℕ, zero, suc, ◌+◌, ◌/◌, ◌%◌, ◌≤◌, ◌<◌}
 use native.Mathlib.Omega.{arith}
-use lib.Dec.{ltb}
 use mir.Val.{Fits}
 use mir.Syntax.{w32, w64}
-use lib.ListN.{length, length-append}
-use borrow.Author.Tests.{lt-ltb, le-ltb, ltb-true, ltb-false, eq-eqb, ne_eqb}
+use lib.ListN.{length}
+use borrow.Author.Tests.{lt-ltb, le-ltb, eq-eqb, ne_eqb}
+use Rattle.std.specs.Fmt as Fmt
+use Rattle.std.proofs.lemmas.Fmt.{AppendsLastDigit, decimal_from_appends, length-decimal-le, length-decimal-le_succ}
 use Rattle.model.specs.Limits.{none}
 use Rattle.model.specs.declared.answers.Verdict.{Verdict}
 use Rattle.model.specs.declared.answers.Verdict.TheVariants.{Accepted, Refused, Violated}
 use Rattle.model.specs.Checked.{accepts}
 use Rattle.report.specs.Text.{digit, spelled, decimal, dashed, head_of, lines_of, text_of}
 
--- with steps enough, how many there are does not matter
-enough : (j k n : ℕ) → n ≤ j → n ≤ k → spelled j n ≡ spelled k n
-unfolding spelled
-enough zero zero n p q = refl
-enough zero (suc k) n p q = rw (lt-ltb n 10 (omega arith))
-enough (suc j) zero n p q = rw (lt-ltb n 10 (omega arith))
-enough (suc j) (suc k) n p q = by (ltb n 10) refl (λ h. enough j k (n / 10) (omega arith) (omega arith))
+-- at most so many digits
+last : ℕ → ℕ → List ℕ
+last zero n = []
+last (suc k) n = spelled k n
+
+appends : AppendsLastDigit last
+unfolding spelled last
+appends = record { one = one; more = more }
   where
-    by : (b : Bool) → ltb n 10 ≡ b → (10 ≤ n → spelled j (n / 10) ≡ spelled k (n / 10)) → spelled (suc j) n ≡ spelled (suc k) n
-    by true e h = rw e
-    by false e h = rw (e, h (ltb-false n 10 e))
+    one : (k n : ℕ) → n < 10 → last (suc k) n ≡ (48 + n) ∷ []
+    one zero n h = ap (λ (d : ℕ). digit d ∷ []) (omega arith)
+    one (suc k) n h = rw (lt-ltb n 10 h) (ap (λ (d : ℕ). digit d ∷ []) (omega arith))
 
-pub decimal_one : (n : ℕ) → n < 10 → decimal n ≡ digit (n % 10) ∷ []
-unfolding decimal spelled
-decimal_one zero h = refl
-decimal_one (suc n) h = rw (lt-ltb (suc n) 10 h)
+    more : (k n : ℕ) → 10 ≤ n → last (suc k) n ≡ last k (n / 10) ++ ((48 + n % 10) ∷ [])
+    more zero n h = refl
+    more (suc k) n h = rw (le-ltb n 10 h)
 
-pub decimal_more : (n : ℕ) → 10 ≤ n → decimal n ≡ decimal (n / 10) ++ (digit (n % 10) ∷ [])
-unfolding decimal spelled
-decimal_more zero h = absurd (omega arith)
-decimal_more (suc n) h = rw (le-ltb (suc n) 10 h, enough n (suc n / 10) (suc n / 10) (omega arith) (omega arith))
-
-pub length_one : (n : ℕ) → n < 10 → length (decimal n) ≡ 1
-length_one n h = rw (decimal_one n h)
-
-pub length_more : (n : ℕ) → 10 ≤ n → length (decimal n) ≡ length (decimal (n / 10)) + 1
-length_more n h = rw (decimal_more n h) (length-append (decimal (n / 10)) (digit (n % 10) ∷ []))
-
--- a number below 10^(k+1) has at most k + 1 digits
-pub decimal_short : (k n : ℕ) → n < 10 ^ suc k → length (decimal n) ≤ suc k
-decimal_short zero n h = omega (arith, length_one n h)
-decimal_short (suc k) n h = by (ltb n 10) refl (λ l. decimal_short k (n / 10) (omega (arith, pow-suc 10 (suc k))))
-  where
-    by : (b : Bool) → ltb n 10 ≡ b → (10 ≤ n → length (decimal (n / 10)) ≤ suc k) → length (decimal n) ≤ suc (suc k)
-    by true e l = omega (arith, length_one n (ltb-true n 10 e))
-    by false e l = omega (arith, length_more n (ltb-false n 10 e), l (ltb-false n 10 e))
+pub decimal_is : (n : ℕ) → Fits w64 n → Fmt.decimal n ≡ decimal n
+unfolding decimal last
+decimal_is n h = sym (decimal_from_appends last appends (suc n) n (omega (arith, h)) (omega (arith, length-decimal-le_succ n (omega (arith, h)))))
 
 -- a number of 32 bits has at most 10 digits, one of 64 bits at most 20
 pub short32 : (n : ℕ) → Fits w32 n → length (decimal n) ≤ 10
-short32 n h = decimal_short 9 n (omega (arith, h))
+short32 n h = rw (← decimal_is n (omega (arith, h))) (length-decimal-le 10 n (omega arith) (omega (arith, h)) (omega (arith, h)))
 
 pub short64 : (n : ℕ) → Fits w64 n → length (decimal n) ≤ 20
-short64 n h = decimal_short 19 n (omega (arith, h))
+short64 n h = rw (← decimal_is n h) (length-decimal-le 20 n (omega arith) (omega (arith, h)) (omega (arith, h)))
 
 pub dashed_none : (a : ℕ) → a ≡ none → dashed a ≡ 45 ∷ []
 unfolding dashed
