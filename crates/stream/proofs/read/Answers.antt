@@ -20,13 +20,18 @@ returns-clause-case g c =
     omega (arith, c.fill-2.auto.bytes, length-take c.min-most.result c.args.file.now) in
     let room : length (c.fill-2.new.bytes ++ drop c.min-most.result c.args.file.now) ≡ length c.args.file.now =
     simp (length-append, length-drop) (omega (arith, front)) in
+    let got = c.in_ok-bytes.ensures in
     record {
       head = c.fill.new.bytes;
       headed = g.R.Read.remaining c.fill.new.input;
       kept = g.R.Read.remaining c.fill-2.new.input;
-      heads = (subst (Consumes _ _) (take_all _ _ (omega (arith, whole))) c.in_ok-fill.ensures.read, omega (arith, whole), λ few. absurd (omega (arith, whole, few)));
+      heads = (
+        subst (Consumes _ _) (take_all _ _ (omega (arith, whole))) c.in_ok-fill.ensures.read,
+        omega (arith, whole),
+        λ few. absurd (omega (arith, whole, few)),
+      );
       whole = whole;
-      gives = gives_filled _ _ _ _ c.fill-2.new.bytes _ (omega (arith, room, front)) c.in_ok-bytes.ensures.count c.in_ok-bytes.ensures.read c.in_ok-bytes.ensures.end;
+      gives = gives_filled _ _ _ _ c.fill-2.new.bytes _ (omega (arith, room, front)) got.count got.read got.end;
       drops = subst (GivesSome _ _) (omega (arith, room)) c.in_ok-skip.ensures.ok;
     }
 

@@ -1,7 +1,7 @@
 -- `stream::skip` meets its contract: the input loses more in each piece that is dropped.
-use Rattle.std.proofs.Common.{◌≤◌, length, [], arith, length-append, length-take, ◌++◌, take}
-use Rattle.std.proofs.KnownBytes.{Consumes-nil, Consumes-trans}
-use Rattle.stream.proofs.Lost.{loses_more}
+use Rattle.std.proofs.Common.{[], arith, length-take}
+use Rattle.std.proofs.KnownBytes.{Consumes-nil}
+use Rattle.stream.proofs.Lost.{lost_more, loses_more}
 use Rattle.stream.proofs.skip.Goals as goal
 
 pub loop-left-init : goal.loop-left-init
@@ -13,16 +13,19 @@ returns-in_err-n-clause-left g c = loses_more _ _ _ (_, c.loop-left.invariant.1)
 pub returns-then-n-eq0 : goal.returns-then-n-eq0
 returns-then-n-eq0 g c =
     let gone = c.loop-left.invariant in
-    let all = Consumes-trans _ _ _ _ _ gone.1 c.in_ok-n.ensures.read in
-    let more = length-append gone.0 (take c.in_ok-n.n c.fill.new.bytes) in
-    let within : length (gone.0 ++ take c.in_ok-n.n c.fill.new.bytes) ≤ c.args.count = omega (arith, more, gone.2, c.in_ok-n.ensures.count.1) in
-    record { ok = (_, (all, within, λ _. c.in_ok-n.ensures.end (omega (arith, c.fill.auto.bytes, length-take c.min-most.result c.loop-left.piece)))); left = (_, all) }
+    let all = lost_more _ _ _ _ _ gone.1 c.in_ok-n.ensures.read in
+    let piece = length-take c.min-most.result c.loop-left.piece in
+    record {
+      ok = (all.0, (all.1, omega (arith, all.2, gone.2, c.in_ok-n.ensures.count), λ few. c.in_ok-n.ensures.end (omega (arith, piece, c.fill.auto.bytes))));
+      left = (all.0, all.1);
+    }
 
 pub loop-left-preserved : goal.loop-left-preserved
 loop-left-preserved g c =
     let gone = c.loop-left.invariant in
-    let more = length-append gone.0 (take c.in_ok-n.n c.fill.new.bytes) in
-    (_, Consumes-trans _ _ _ _ _ gone.1 c.in_ok-n.ensures.read, omega (arith, more, gone.2, c.in_ok-n.ensures.count, c.fill.auto.bytes, length-take c.min-most.result c.loop-left.piece))
+    let all = lost_more _ _ _ _ _ gone.1 c.in_ok-n.ensures.read in
+    let piece = length-take c.min-most.result c.loop-left.piece in
+    (all.0, all.1, omega (arith, all.2, gone.2, c.in_ok-n.ensures.count, piece, c.fill.auto.bytes))
 
 pub returns : goal.returns
 returns g c =
