@@ -51,6 +51,3 @@ returns-clause-calls g c = record {
   calls = c.cases.invariant.done.2;
   ends = inr (omega arith, refl);
 }
-
-pub returns-clause-left : goal.returns-clause-left
-returns-clause-left g c = c.cases.invariant.lost
