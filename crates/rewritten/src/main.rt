@@ -9,8 +9,7 @@ use model::{Fault, Refusal};
 use program::Room;
 use report::Longest;
 use std::io;
-use std::io::{Stdin, Stdout, Write};
-use stream::Next;
+use std::io::Write;
 
 // Each of these puts a line at the beginning of the text, and answers its length: a word and a number.
 fn counted(word: &[u8], n: u32, text: &mut [u8]) -> usize
@@ -73,32 +72,12 @@ fn rewritten(file: &[u8], text: &mut [u8]) -> usize
     }
 }
 
-// Reads one file and prints what comes of it: was there one?
-fn one(input: &mut Stdin, output: &mut Stdout, file: &mut [u8], text: &mut [u8]) -> io::Result<bool>
-    requires { 64 ≤ length text.old }
-{
-    let next = stream::read(input, file)?;
-    let Next::Case { bytes } = next else {
-        return Ok(false);
-    };
-    let k = rewritten(&file[..bytes], text);
-    output.write_all(&text[..k])?;
-    Ok(true)
-}
-
 fn main(rt: HostRuntime) -> io::Result<()> {
-    let mut input = rt.stdin();
     let mut output = rt.stdout();
     let mut room = [0u8; Room::BYTES + 1];
-    let file: &mut [u8] = &mut room;
-    let mut printed = [0u8; Longest::VERDICT];
-    let text: &mut [u8] = &mut printed;
-    let mut turns = u64::MAX;
-    while 0 < turns {
-        if !one(&mut input, &mut output, file, text)? {
-            return Ok(());
-        }
-        turns -= 1;
-    }
-    Ok(())
+    let mut text = [0u8; Longest::VERDICT];
+    stream::each(&mut rt.stdin(), &mut room, |file| {
+        let k = rewritten(file, &mut text);
+        output.write_all(&text[..k])
+    })
 }

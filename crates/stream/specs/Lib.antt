@@ -1,1 +1,3 @@
 pub mod Lost
+pub mod Case
+pub mod Calls

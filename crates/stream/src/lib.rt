@@ -1,29 +1,20 @@
 // Cases that follow each other in the input, each after its length in four bytes.
 #![tactic(auto)]
 
-ghost use Rattle.std.specs.Prelude.{◌≡◌, ℕ, ◌≤◌, ◌<◌, length, take, IfOk, OnErr};
+ghost use Rattle.std.specs.Prelude.{◌≡◌, ◌≤◌, ◌<◌, length, take, IfOk, OnOk, OnErr, IfSome, MatchOption};
 ghost use Rattle.std.specs.Io.KnownBytes.{Consumes, IsAtEnd};
 ghost use Rattle.std.specs.Io.{ReadsAtMost};
 ghost use Rattle.stream.specs.Lost.{Loses};
+ghost use Rattle.std.specs.Fn.{CalledAt};
+ghost use Rattle.stream.specs.Case.{GivesSome, IsCase, IsEnd};
+ghost use Rattle.stream.specs.Calls.{CallsOnEach};
 
 use std::io;
 use std::io::Read;
 use wire::Width;
 
-// What the input has next: a case, with the bytes of it that were read, or its end.
-#[derive(Clone, Copy)]
-pub enum Next {
-    Case { bytes: usize },
-    End,
-}
-
-fn least(a: usize, b: usize) -> usize
-    ensures { (result ≤ a) × (result ≤ b) }
-{
-    if a < b { a } else { b }
-}
-
 // Reads to the front of the lent bytes until they are full or the input ends: how many were read. After an error some were.
+// `read_exact` and `io::copy` don't fit: they try an interrupted read again, and don't say how many bytes came before the end.
 pub fn fill<R: Read>(input: &mut R, bytes: &mut [u8]) -> io::Result<usize>
     ensures count { ReadsAtMost result bytes.new }
     ensures read { IfOk result (λ n. Consumes (R.remaining input.old) (R.remaining input.new) (take n bytes.new)) }
@@ -43,23 +34,16 @@ pub fn fill<R: Read>(input: &mut R, bytes: &mut [u8]) -> io::Result<usize>
 
 const PIECE: usize = 4096;
 
-// Reads a piece of at most so many bytes and drops it: how many there were.
-fn dropped<R: Read>(input: &mut R, count: usize) -> io::Result<usize>
-    ensures count { IfOk result (λ n. n ≤ count) }
+// Drops so many bytes, or fewer where the input ends. `io::copy` into a sink says nothing of what an input lost before an error.
+fn skip<R: Read>(input: &mut R, count: usize) -> io::Result<()>
+    ensures ok { OnOk result (GivesSome (R.remaining input.old) (R.remaining input.new) count) }
     ensures left { Loses (R.remaining input.old) (R.remaining input.new) }
 {
     let mut piece = [0u8; PIECE];
-    let most = least(count, PIECE);
-    fill(input, &mut piece[..most])
-}
-
-// Drops so many bytes, or fewer where the input ends.
-fn skip<R: Read>(input: &mut R, count: usize) -> io::Result<()>
-    ensures left { Loses (R.remaining input.old) (R.remaining input.new) }
-{
     let mut left = count;
     while 0 < left {
-        let n = dropped(input, left)?;
+        let most = left.min(PIECE);
+        let n = fill(input, &mut piece[..most])?;
         if n == 0 {
             return Ok(());
         }
@@ -68,19 +52,40 @@ fn skip<R: Read>(input: &mut R, count: usize) -> io::Result<()>
     Ok(())
 }
 
-// Reads the next case to the front of the lent bytes, and drops what they have no room for. After an error the input stands somewhere in
-// the case, and the bytes that were read of it are lost.
-pub fn read<R: Read>(input: &mut R, file: &mut [u8]) -> io::Result<Next>
-    ensures case { IfOk result (λ next. (n : ℕ) → next ≡ Next.Case n → n ≤ length file.new) }
+// Reads the next case to the front of the lent bytes, and drops what they have no room for: how many were read, or none where the input
+// ends. After an error the input stands somewhere in the case, and the bytes that were read of it are lost.
+pub fn read<R: Read>(input: &mut R, file: &mut [u8]) -> io::Result<Option<usize>>
+    ensures count { IfOk result (λ case. IfSome case (λ n. n ≤ length file.new)) }
+    ensures case { IfOk result (λ case. MatchOption case (IsEnd (R.remaining input.old) (R.remaining input.new))
+        (λ n. IsCase (R.remaining input.old) (R.remaining input.new) (length file.new) (take n file.new))) }
     ensures left { Loses (R.remaining input.old) (R.remaining input.new) }
 {
     let mut head = [0u8; Width::WORD];
     if fill(input, &mut head)? < Width::WORD {
-        return Ok(Next::End);
+        return Ok(None);
     }
     let length = wire::word32(&head, 0) as usize;
-    let most = least(length, file.len());
+    let most = length.min(file.len());
     let bytes = fill(input, &mut file[..most])?;
     skip(input, length - most)?;
-    Ok(Next::Case { bytes })
+    Ok(Some(bytes))
+}
+
+// Reads case after case to the front of the lent bytes and calls the function at each, until the input ends or a call fails.
+pub fn each<R: Read, F: FnMut(&[u8]) -> io::Result<()>>(
+    input: &mut R,
+    file: &mut [u8],
+    mut answer: F,
+) -> io::Result<()>
+    requires { F.IsAlwaysCallable answer }
+    ensures calls { OnOk result (CallsOnEach (CalledAt F.FnMut) (length file.old) (R.remaining input.old) (R.remaining input.new) answer) }
+    ensures left { Loses (R.remaining input.old) (R.remaining input.new) }
+{
+    'cases: for _ in 0..u64::MAX {
+        let Some(bytes) = read(input, file)? else {
+            return Ok(());
+        };
+        answer(&file[..bytes])?;
+    }
+    Ok(())
 }
