@@ -1,10 +1,10 @@
--- One action: its sums fit, and the numbers that the code compares decide whether it keeps. Assumes nothing.
+-- One action: the numbers that the code compares decide whether it keeps. Assumes nothing.
 use mathlib.Core.Path.{◌≡◌, refl, sym, ap, fun_ext, ◌∙◌}
 use mathlib.Core.Bool.{Bool, true, false, cond, ◌&&◌, and-true, and-false}
-use mathlib.Core.List.{List}
+use Rattle.std.proofs.Math.Bool.{and_comm}
 use mathlib.Core.Logic.{⊎_elim}
 use Prim.Native.Nat.{ℕ, ◌+◌, ◌*◌, ◌≤◌, ◌<◌}
-use native.Mathlib.Nat.{mul-le-mul, mul-zero}
+use native.Mathlib.Nat.{mul-zero}
 use native.Mathlib.Omega.{arith}
 use lib.Dec.{ltb}
 use lib.ListN.{get_or}
@@ -12,13 +12,13 @@ use borrow.Author.Tests.{lt-ltb, le-ltb, ne_eqb}
 use Rattle.walk.specs.Fold.{any}
 use Rattle.walk.proofs.Fold.{at_end, least_below}
 use Rattle.model.specs.declared.kinds.Kind.{Kind}
-use Rattle.model.specs.Limits.{most_weight_scale, most_cost, most_cost_claim, none}
+use Rattle.model.specs.Limits.{none}
 use Rattle.model.specs.Kinds.{is_cost}
 use Rattle.model.specs.Tables.{is_rank}
-use Rattle.model.specs.Conditions.{weighted_over, suits_by, falls_over}
+use Rattle.model.specs.Conditions.{weighted_over, suits_by}
 use Rattle.actions.specs.declared.State.{State}
-use Rattle.actions.specs.Ready.{Standing}
-use Rattle.actions.specs.Judging.{least_of, suits_over, keeps_over}
+use Rattle.actions.specs.Ready.{Walkable}
+use Rattle.actions.specs.Judging.{Rows, least_of, kept, suits_over, suits_in, falls_in}
 
 spends : (b : Bool) (x y : ℕ) → (b ≡ false → y ≡ 0) → x * y ≡ cond b (x * y) 0
 spends true x y h = refl
@@ -31,39 +31,30 @@ below_ranked r q h = ⊎_elim
     (λ (l : r < q). rw (lt-ltb r q l, ne_eqb r none (λ e. omega arith)))
     (at_end r q)
 
-module _ {k : Kind} {x : State} (w : Standing k x) where
-  pub due_fits : x.scale * x.claim ≤ most_weight_scale * most_cost_claim
-  due_fits = mul-le-mul w.scale_most w.claim_most
+-- the action numbered a, by what the walk over its branches gives
+module _ {k : Kind} {x : State} {y : Rows} (w : Walkable k x y) (a : ℕ) where
+  abbrev lo : ℕ
+  lo = get_or y.branch_starts a 0
 
-  pub spent_fits : x.scale * x.cost ≤ most_weight_scale * most_cost
-  spent_fits = mul-le-mul w.scale_most w.cost_most
+  abbrev hi : ℕ
+  hi = get_or y.branch_starts (a + 1) 0
 
-  pub suits_sum : (destinations weights claims : List ℕ) (lo hi sum : ℕ) → sum ≡ weighted_over destinations weights claims lo hi
-      → suits_by k (x.scale * x.claim) (sum + x.scale * x.cost) ≡ suits_over k x destinations weights claims lo hi
-  unfolding suits_over
-  suits_sum destinations weights claims lo hi sum p = rw p
-      (ap (λ (e : ℕ). suits_by k (x.scale * x.claim) (weighted_over destinations weights claims lo hi + e))
-      (spends (is_cost k.measure) x.scale x.cost w.no_cost))
+  module _ {sum : ℕ} (p : sum ≡ weighted_over y.destinations y.weights y.claims lo hi) where
+    suits_sum : suits_by k (x.scale * x.claim) (sum + x.scale * x.cost) ≡ suits_in k x y a
+    unfolding suits_over suits_in
+    suits_sum = rw p
+        (ap (λ (e : ℕ). suits_by k (x.scale * x.claim) (weighted_over y.destinations y.weights y.claims lo hi + e))
+        (spends (is_cost k.measure) x.scale x.cost w.standing.no_cost))
 
-  module _ (destinations weights claims ranks : List ℕ) (lo hi : ℕ) where
-    falls_least : lo ≤ hi → falls_over destinations ranks x.rank lo hi ≡ ltb (least_of destinations ranks lo hi) x.rank
-    unfolding least_of
-    falls_least l =
-        ap (λ (p : ℕ → Bool). any p lo hi) (fun_ext (λ j. below_ranked (get_or ranks (get_or destinations j 0) 0) x.rank w.rank_most))
-        ∙ sym (least_below (λ j. get_or ranks (get_or destinations j 0) 0) none x.rank hi lo w.rank_most l)
+    pub keeps_unasked : suits_by k (x.scale * x.claim) (sum + x.scale * x.cost) ≡ kept false (suits_in k x y a) (falls_in x y a)
+    keeps_unasked = suits_sum ∙ sym (and-true (suits_in k x y a))
 
-    module _ (asked : Bool) where
-      pub keeps_unasked : asked ≡ false → suits_over k x destinations weights claims lo hi ≡ keeps_over k asked x destinations weights claims ranks lo hi
-      unfolding keeps_over
-      keeps_unasked f = rw f (sym (and-true (suits_over k x destinations weights claims lo hi)))
+    module _ (i : a < x.end) {low : ℕ} (h : low ≡ least_of y.destinations y.ranks lo hi) where
+      falls_least : falls_in x y a ≡ ltb low x.rank
+      unfolding least_of falls_in
+      falls_least = rw h
+          (ap (λ (p : ℕ → Bool). any p lo hi) (fun_ext (λ j. below_ranked (get_or y.ranks (get_or y.destinations j 0) 0) x.rank w.standing.rank_most))
+          ∙ sym (least_below (λ j. get_or y.ranks (get_or y.destinations j 0) 0) none x.rank hi lo w.standing.rank_most (w.stretches a i).low))
 
-      module _ (f : asked ≡ true) (l : lo ≤ hi) (low : ℕ) (h : low ≡ least_of destinations ranks lo hi) where
-        pub keeps_falling : low < x.rank → suits_over k x destinations weights claims lo hi ≡ keeps_over k asked x destinations weights claims ranks lo hi
-        unfolding keeps_over
-        keeps_falling g =
-            rw (f, falls_least l, ← h, lt-ltb low x.rank g) (sym (and-true (suits_over k x destinations weights claims lo hi)))
-
-        pub keeps_unfallen : x.rank ≤ low → false ≡ keeps_over k asked x destinations weights claims ranks lo hi
-        unfolding keeps_over
-        keeps_unfallen g =
-            rw (f, falls_least l, ← h, le-ltb low x.rank g) (sym (and-false (suits_over k x destinations weights claims lo hi)))
+      pub keeps_asked : (ltb low x.rank && suits_by k (x.scale * x.claim) (sum + x.scale * x.cost)) ≡ kept true (suits_in k x y a) (falls_in x y a)
+      keeps_asked = rw (suits_sum, falls_least) (and_comm (ltb low x.rank) (suits_in k x y a))

@@ -1,41 +1,33 @@
--- `actions::sweep` meets its contract: the sum and the least rank over the branches below j. Assumes nothing.
-use native.Mathlib.Nat.{le_refl}
-use native.Mathlib.Omega.{arith}
-use lib.ListN.{get_or}
-use Rattle.walk.proofs.Loop.{sink_start, sink_pass, sink_end}
-use Rattle.model.specs.Limits.{none}
-use Rattle.actions.specs.Judging.{least_of}
-use Rattle.actions.proofs.Weighing.{weigh_start, weigh_pass, weigh_end, sum_fits}
+-- `actions::sweep` meets its contract: the sum and the least rank over the branches that the range no longer has.
+use Rattle.std.proofs.Common.{arith, refl, ◌∙◌}
+use Rattle.walk.proofs.Loop.{sink_end}
+use Rattle.actions.proofs.Weighing.{sum_fits, weigh_end, sweep_start, sweep_pass}
 use Rattle.actions.proofs.sweep.Goals as goal
 
 pub loop-j-init : goal.loop-j-init
-unfolding least_of
 loop-j-init c =
-    let x = c.args in
-    record {
-      weighing = weigh_start c.requires.weighable;
-      sinking = sink_start (λ i. get_or x.ranks.now (get_or x.destinations.now i 0) 0) none x.lo x.hi c.requires.weighable.low;
-      small = le_refl none;
-      ranked = c.requires.ranks_len;
-    }
+    rw c.into_iter-j-iterator.ensures.into_iter_gives
+    (record { same_end = refl; sweeping = sweep_start c.requires.weighable c.requires.ranks_len })
 
-pub overflow_mul-total : goal.overflow_mul-total
-overflow_mul-total c = omega (arith, sum_fits c.loop-j.invariant.weighing c.loop-j-test.true)
+pub overflow_mul-swept : goal.overflow_mul-swept
+overflow_mul-swept c =
+    let s = c.in-Some.ensures.steps in rw s.1.1 (omega (arith, sum_fits c.loop-j.invariant.sweeping.weighing (omega arith)))
 
-pub overflow_add-total : goal.overflow_add-total
-overflow_add-total c = omega (arith, sum_fits c.loop-j.invariant.weighing c.loop-j-test.true)
+pub overflow_add-swept : goal.overflow_add-swept
+overflow_add-swept c =
+    let s = c.in-Some.ensures.steps in rw s.1.1 (omega (arith, sum_fits c.loop-j.invariant.sweeping.weighing (omega arith)))
 
 pub loop-j-preserved : goal.loop-j-preserved
 loop-j-preserved c =
+    let s = c.in-Some.ensures.steps in
     record {
-      weighing = weigh_pass c.loop-j.invariant.weighing c.loop-j-test.true;
-      sinking = sink_pass c.loop-j.invariant.sinking c.loop-j-test.true c.lesser-least.result c.lesser-least.ensures;
-      small = omega (arith, c.lesser-least.ensures, c.loop-j.invariant.small);
-      ranked = c.loop-j.invariant.ranked;
+      same_end = s.0 ∙ c.loop-j.invariant.same_end;
+      sweeping = rw (s.1.1, s.1.2) (sweep_pass c.loop-j.invariant.sweeping (omega arith) (rw s.1.1 at c.min.ensures));
     }
 
 pub returns-clause-sum_value : goal.returns-clause-sum_value
-returns-clause-sum_value c = weigh_end c.loop-j.invariant.weighing c.loop-j-test.false
+returns-clause-sum_value c = let s = c.in-None.ensures.steps in weigh_end c.loop-j.invariant.sweeping.weighing (omega arith)
 
 pub returns-clause-least_value : goal.returns-clause-least_value
-returns-clause-least_value c = sink_end c.loop-j.invariant.sinking c.loop-j-test.false c.loop-j.invariant.small
+returns-clause-least_value c =
+    let s = c.in-None.ensures.steps in let w = c.loop-j.invariant.sweeping in sink_end w.sinking (omega arith) w.small
