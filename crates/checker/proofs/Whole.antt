@@ -15,10 +15,11 @@ use Rattle.model.specs.declared.answers.Verdict.{Verdict}
 use Rattle.model.specs.declared.answers.Verdict.TheVariants.{Accepted, Refused}
 use Rattle.model.specs.declared.answers.Answer.{Answer}
 use Rattle.model.specs.declared.kinds.Kind.{Kind}
-use Rattle.model.specs.declared.kinds.Known.TheVariants.{As, Nothing}
+use Rattle.model.specs.declared.answers.Fault.{Fault}
+use Rattle.std.specs.Prelude.{Ok, Err}
 use Rattle.model.specs.Kinds.{is_some, is_kind, kind_of, known_as, Columns}
 use Rattle.model.specs.Tables.{Model, Claim, states}
-use Rattle.model.specs.Answers.{pass, then, tried, require}
+use Rattle.model.specs.Answers.{pass, given, then, tried, require}
 use Rattle.model.specs.Refusals.{entries, lengths_of, kind_test, sizes_of, size_tests, row_tests, ranges_of, range_tests, tests}
 use Rattle.model.specs.WellFormed.{Sized, WellFormed}
 use Rattle.model.specs.Conditions.{judged}
@@ -191,24 +192,27 @@ module _ (kind : ℕ) (t : Model) (u : Claim) (before after : List ℕ) where
   unfolding choices_of answer_of
   chooses v p = ap (chosen_of (kind_of kind) t u before) p
 
-  pub known_kept : (v : Verdict) (k : Kind) → As k ≡ known_as kind → v ≡ verdict_of k t u before → after ≡ chosen_of k t u before (verdict_of k t u before)
+  pub known_kept : (k : Kind) → known_as kind ≡ Ok k → (v : Verdict) → v ≡ verdict_of k t u before → after ≡ chosen_of k t u before (verdict_of k t u before)
       → Checked kind t u before (record { kind = kind; verdict = v }) after
-  known_kept v k e p q =
-      let n = named kind k (sym e) in
+  known_kept k e v p q =
+      let n = named kind k e in
       let f = sym (verdict_is n.0) in
       promise kind t u before _ after (answers v (p ∙ ap (λ (x : Kind). verdict_of x t u before) (sym n.1) ∙ f))
       (q ∙ ap (λ (x : Kind). chosen_of x t u before (verdict_of x t u before)) (sym n.1) ∙ chooses (verdict_of (kind_of kind) t u before) f)
 
-  pub unknown_kept : Nothing ≡ known_as kind → after ≡ before → Checked kind t u before (record { kind = kind; verdict = Refused 1 0 }) after
-  unknown_kept e q =
-      let f = sym (verdict_none (unnamed kind (sym e))) in
-      promise kind t u before _ after (answers (Refused 1 0) f) (q ∙ unchosen (kind_of kind) t u before (Refused 1 0) refl ∙ chooses (Refused 1 0) f)
+  pub unknown_kept : (f : Fault) → known_as kind ≡ Err f → (v : Verdict) → v ≡ given f → after ≡ before
+      → Checked kind t u before (record { kind = kind; verdict = v }) after
+  unknown_kept f e v p q =
+      let n = unnamed kind f e in
+      let w : v ≡ Refused 1 0 = p ∙ ap given n.1 in
+      let g = sym (verdict_none n.0) in
+      promise kind t u before _ after (answers v (w ∙ g)) (q ∙ unchosen (kind_of kind) t u before (Refused 1 0) refl ∙ chooses (Refused 1 0) g)
 
 module _ (kind : ℕ) (t : Model) (u : Claim) (chosen : ℕ) where
-  pub known_refused : (v : Verdict) (k : Kind) → As k ≡ known_as kind → v ≡ tried (tests k t u chosen) pass → v ≡ refusal_of kind t u chosen
+  pub known_refused : (k : Kind) → known_as kind ≡ Ok k → (v : Verdict) → v ≡ tried (tests k t u chosen) pass → v ≡ refusal_of kind t u chosen
   unfolding refusal_of then kind_test require
-  known_refused v k e p = let n = named kind k (sym e) in p ∙ ap (λ (x : Kind). tried (tests x t u chosen) pass) (sym n.1) ∙ rw n.0
+  known_refused k e v p = let n = named kind k e in p ∙ ap (λ (x : Kind). tried (tests x t u chosen) pass) (sym n.1) ∙ rw n.0
 
-  pub unknown_refused : Nothing ≡ known_as kind → Refused 1 0 ≡ refusal_of kind t u chosen
+  pub unknown_refused : (f : Fault) → known_as kind ≡ Err f → given f ≡ refusal_of kind t u chosen
   unfolding refusal_of then kind_test require
-  unknown_refused e = rw (unnamed kind (sym e))
+  unknown_refused f e = let n = unnamed kind f e in rw (n.1, n.0)
