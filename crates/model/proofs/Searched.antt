@@ -4,20 +4,24 @@ use mathlib.Core.Path.{◌≡◌, refl, sym, ◌∙◌}
 use mathlib.Core.Bool.{Bool, true, false, not}
 use mathlib.Core.List.{List, [], ◌∷◌}
 use mathlib.Core.Logic.{⊎_elim}
-use Prim.Native.Nat.{ℕ, zero-le}
+use Prim.Native.Nat.{ℕ, ◌≤◌, ◌<◌, zero-le}
 use lib.Dec.{T, ltb, leb}
 use lib.ListN.{length, get_or}
 use borrow.Author.Tests.{lt-ltb, le-ltb, lt-leb, le-leb}
-use Rattle.std.specs.Prelude.{Result, Ok, Err}
+use Rattle.std.specs.Prelude.{Result, Ok, Err, Option, Some, None}
 use Rattle.std.specs.List.{position, position_or_len}
 use Rattle.std.proofs.lemmas.List.Sums.{fails_before_first, passes_at_first, prefix_len-le-length}
 use Rattle.walk.specs.Fold.{first, any}
-use Rattle.walk.proofs.Fold.{at_end, lowest_is}
+use Rattle.walk.proofs.Bools.{holds}
+use Rattle.walk.proofs.Fold.{at_end, lowest_is, Lowest}
+use Rattle.std.specs.Option.{MatchOption, IfSome}
+use native.Mathlib.Omega.{arith}
+use native.Mathlib.Nat.{le_of_lt}
 use Rattle.model.specs.declared.answers.Fault.{Fault}
 use Rattle.model.specs.declared.answers.Verdict.{Verdict}
 use Rattle.model.specs.Answers.{pass, given, tested, tried, require, found, throughout}
 use Rattle.model.specs.Checked.{accepts}
-use Rattle.model.proofs.Tried.{tried_go, tried_stop, settled}
+use Rattle.model.proofs.Tried.{tried_go, tried_stop, settled, throughout_stop, all_throughout}
 
 module _ (wrong right : ℕ → Bool) (same : (x : ℕ) → wrong x ≡ not (right x)) (xs : List ℕ) where
   first_wrong : first (λ i. not (right (get_or xs i 0))) 0 (length xs) ≡ position_or_len wrong xs
@@ -63,3 +67,23 @@ tried_word {A} r x e = settled x (by r e)
     by : (q : Result A Fault) → tested q ≡ x → T (accepts x) → x ≡ pass
     by (Ok a) o h = sym o
     by (Err f) o h = absurd (rw (← o) at h)
+
+-- what a search of the range below n comes to: nothing is wrong, or the first that is wrong
+module _ (right : ℕ → Bool) (n : ℕ) where
+  abbrev pub Sought : Option ℕ → Type 0
+  Sought r =
+      MatchOption r ((i : ℕ) → 0 ≤ i → i < n → right i ≡ true)
+      (λ i. (0 ≤ i) × (i < n) × (right i ≡ false) × ((j : ℕ) → 0 ≤ j → j < i → right j ≡ true))
+
+  pub found_sought : (k : ℕ) (r : Option ℕ) → Sought r → found k r ≡ throughout right n k
+  unfolding found
+  found_sought k None m = sym (all_throughout right n k (λ i l. holds (m i zero-le l)))
+  found_sought k (Some i) m = throughout_stop right n k i m.1 (sym (lowest_is (λ j. not (right j)) n 0 i zero-le at))
+    where
+      at : Lowest (λ j. not (right j)) 0 n i
+      at = record { low = zero-le; high = le_of_lt m.1; hit = λ l. rw m.2; passed = λ j l u. rw (m.3 j l u) }
+
+  -- it is below any number that n is below
+  pub sought_below : (top : ℕ) → n < top → (r : Option ℕ) → Sought r → IfSome r (λ i. i < top)
+  sought_below top h None m = tt
+  sought_below top h (Some i) m = omega (arith, m.1)

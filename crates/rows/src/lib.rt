@@ -30,6 +30,7 @@ fn start_ends(starts: &[u32], end: usize, i: usize) -> bool
 }
 
 // The first start is 0, any other is above the one before it, and the last is the end.
+#[tactic(auto, unfolding(model::specs::Refusals::start_right))]
 fn start_right(starts: &[u32], end: usize, i: usize) -> bool
     requires { i < length starts.now }
     ensures { result ≡ start_right starts.now end i }
