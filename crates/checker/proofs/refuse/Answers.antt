@@ -1,10 +1,6 @@
--- `checker::refuse` meets its contract: the kind's number names a kind, or is refused. Assumes nothing.
-use mathlib.Core.Path.{sym, ◌∙◌}
+-- `checker::refuse` meets its contract: 1 first, and then the refusals of the kind. Assumes nothing.
+use Rattle.std.proofs.Common.{rules, ◌≡◌, sym, ◌∙◌}
+use Rattle.model.specs.Tables.{model_in, claim_in}
+use Rattle.model.specs.Answers.{tested, given}
 use Rattle.checker.proofs.Whole.{known_refused, unknown_refused}
 use Rattle.checker.proofs.refuse.Goals as goal
-
-pub returns-in-As : goal.returns-in-As
-returns-in-As c = known_refused _ _ _ _ _ _ (sym c.in-As.is ∙ c.kind_of.ensures) c.refusals.ensures
-
-pub returns-in-Nothing : goal.returns-in-Nothing
-returns-in-Nothing c = unknown_refused _ _ _ _ (sym c.in-Nothing.is ∙ c.kind_of.ensures)
