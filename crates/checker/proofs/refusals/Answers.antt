@@ -34,5 +34,5 @@ ranges-requires-clause-ranks_len_bound c =
 
 pub returns : goal.returns
 returns c =
-    c.ranges.ensures
+    c.ranges-2.ensures
     ∙ ranges_left _ (model_in c.args.t.now) (claim_in c.args.u.now) _ (ok_goes c.in_ok-sizes.ensures) (ok_goes c.in_ok-count.ensures)
