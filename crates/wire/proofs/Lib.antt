@@ -1,6 +1,7 @@
 pub mod Swap
-pub mod Fill
+pub mod Reading
 pub mod First
 pub mod Spelled
 pub mod Parts
 pub mod RoundTrip
+pub mod Copied

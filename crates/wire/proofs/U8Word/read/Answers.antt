@@ -1,7 +1,7 @@
--- `wire::word8` meets its contract. Assumes nothing.
+-- A byte is its own number. Assumes nothing.
 use native.Mathlib.Omega.{arith}
 use Rattle.wire.specs.Words.{word}
-use Rattle.wire.proofs.word8.Goals as goal
+use Rattle.wire.proofs.U8Word.read.Goals as goal
 
 pub returns : goal.returns
 unfolding word
