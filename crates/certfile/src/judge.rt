@@ -17,7 +17,7 @@ fn length_field_right(file: &[u8]) -> bool
     if file.len() < Header::BYTES {
         return false;
     }
-    let counted = reader::number(file, Header::LENGTH_AT) as usize;
+    let counted = reader::word::<u32>(file, Header::LENGTH_AT) as usize;
     counted == file.len() - Width::WORD
 }
 
@@ -26,7 +26,7 @@ fn version_right(file: &[u8]) -> bool
     requires { size header_blocks ≤ length file.now }
     ensures { result ≡ version_right file.now }
 {
-    reader::byte(file, Header::VERSION_AT) == Header::VERSION
+    reader::word::<u8>(file, Header::VERSION_AT) == Header::VERSION
 }
 
 // 1: the kind is one of the eight.

@@ -109,23 +109,13 @@ pub fn read(
     };
     let count = layout::counts_of(h);
     let place = layout::places_of(h);
-    reader::read8(file, place.marks, marks, count.marks);
-    reader::read32(
-        file,
-        place.action_starts,
-        action_starts,
-        count.action_starts,
-    );
-    reader::read32(
-        file,
-        place.branch_starts,
-        branch_starts,
-        count.branch_starts,
-    );
-    reader::read32(file, place.destinations, destinations, count.destinations);
-    reader::read32(file, place.weights, weights, count.weights);
-    reader::read32(file, place.costs, costs, count.costs);
-    reader::read64(file, place.claims, claims, count.claims);
-    reader::read32(file, place.ranks, ranks, count.ranks);
+    reader::fill(file, place.marks, marks, count.marks);
+    reader::fill(file, place.action_starts, action_starts, count.action_starts);
+    reader::fill(file, place.branch_starts, branch_starts, count.branch_starts);
+    reader::fill(file, place.destinations, destinations, count.destinations);
+    reader::fill(file, place.weights, weights, count.weights);
+    reader::fill(file, place.costs, costs, count.costs);
+    reader::fill(file, place.claims, claims, count.claims);
+    reader::fill(file, place.ranks, ranks, count.ranks);
     Outcome::Read(h)
 }

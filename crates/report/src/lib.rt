@@ -6,6 +6,7 @@ ghost use Rattle.report.specs.Text.{decimal, dashed, field, head_of, line_of, li
 ghost use Rattle.walk.specs.Put.{Put};
 
 use model::{Rank, Verdict};
+use wire::Word;
 
 // The most bytes that the verdict's line and the line of a choice take.
 #[derive(Clone, Copy)]
@@ -35,10 +36,10 @@ fn number(text: &mut [u8], at: usize, n: u64) -> usize
 {
     let digit = ZERO + (n % BASE) as u8;
     if n < BASE {
-        return wire::put8(text, at, digit);
+        return digit.put(text, at);
     }
     let next = number(text, at, n / BASE);
-    wire::put8(text, next, digit)
+    digit.put(text, next)
 }
 
 // A blank, and then a number.
@@ -47,7 +48,7 @@ pub fn spaced(text: &mut [u8], at: usize, n: u32) -> usize
     ensures put { Put text.old text.new at result (field (decimal n)) }
     ensures short { result ≤ at + 11 }
 {
-    let next = wire::put8(text, at, BLANK);
+    let next = BLANK.put(text, at);
     number(text, next, n as u64)
 }
 
@@ -58,8 +59,8 @@ fn action(text: &mut [u8], at: usize, n: u32) -> usize
     ensures short { result ≤ at + 11 }
 {
     if n == Rank::NONE {
-        let next = wire::put8(text, at, BLANK);
-        return wire::put8(text, next, DASH);
+        let next = BLANK.put(text, at);
+        return DASH.put(text, next);
     }
     spaced(text, at, n)
 }
@@ -72,26 +73,26 @@ fn head(verdict: Verdict, text: &mut [u8]) -> usize
 {
     match verdict {
         Verdict::Accepted { rank } => {
-            let name = wire::copy8(text, 0, b"accepted");
+            let name = wire::spell(text, 0, b"accepted");
             let at = spaced(text, name, rank);
-            wire::put8(text, at, NEWLINE)
+            NEWLINE.put(text, at)
         }
         Verdict::Refused { number, place } => {
-            let name = wire::copy8(text, 0, b"refused");
+            let name = wire::spell(text, 0, b"refused");
             let at = spaced(text, name, number);
             let end = spaced(text, at, place);
-            wire::put8(text, end, NEWLINE)
+            NEWLINE.put(text, end)
         }
         Verdict::Violated {
             number,
             state,
             action: broken,
         } => {
-            let name = wire::copy8(text, 0, b"violated");
+            let name = wire::spell(text, 0, b"violated");
             let at = spaced(text, name, number);
             let next = spaced(text, at, state);
             let end = action(text, next, broken);
-            wire::put8(text, end, NEWLINE)
+            NEWLINE.put(text, end)
         }
     }
 }
@@ -104,7 +105,7 @@ fn line(text: &mut [u8], at: usize, state: u64, choice: u32) -> usize
 {
     let name = number(text, at, state);
     let end = action(text, name, choice);
-    wire::put8(text, end, NEWLINE)
+    NEWLINE.put(text, end)
 }
 
 fn lines(text: &mut [u8], from: usize, choices: &[u32]) -> usize

@@ -8,7 +8,7 @@ ghost use Rattle.stream.specs.Lost.{Loses};
 
 use std::io;
 use std::io::Read;
-use wire::Width;
+use wire::{Width, Word};
 
 // What the input has next: a case, with the bytes of it that were read, or its end.
 #[derive(Clone, Copy)]
@@ -78,7 +78,7 @@ pub fn read<R: Read>(input: &mut R, file: &mut [u8]) -> io::Result<Next>
     if fill(input, &mut head)? < Width::WORD {
         return Ok(Next::End);
     }
-    let length = wire::word32(&head, 0) as usize;
+    let length = u32::read(&head, 0) as usize;
     let most = least(length, file.len());
     let bytes = fill(input, &mut file[..most])?;
     skip(input, length - most)?;

@@ -1,5 +1,5 @@
 -- Bytes copied into a part of a file are put there, and those of a number are the library's. Assumes nothing.
-use mathlib.Core.Path.{◌≡◌, refl, sym, ap, ◌∙◌}
+use mathlib.Core.Path.{◌≡◌, refl, sym, ◌∙◌}
 use mathlib.Core.List.{List, [], ◌∷◌, append_assoc}
 use Prim.Native.Nat.{ℕ, ◌+◌, ◌-◌, ◌/◌, ◌≤◌}
 use native.Mathlib.Omega.{arith}
@@ -10,12 +10,15 @@ use Rattle.std.specs.Int.{w32, w64, to_be_bytes, from_be_bytes}
 use Rattle.walk.specs.Put.{Put}
 use Rattle.wire.specs.Words.{word, bytes}
 
-pub copied : (t xs ys : List ℕ) (at n : ℕ) → at + n ≤ length t → length ys ≡ n → xs ≡ ys → Put t (put_mid at (at + n - at) t xs) at (at + n) ys
-copied t xs ys at n fits long same =
-    let k : at + n - at ≡ n = omega arith in
+pub copied : (t xs ys : List ℕ) (at : ℕ) → at + length ys ≤ length t → xs ≡ ys
+    → Put t (put_mid at (at + length ys - at) t xs) at (at + length ys) ys
+copied t xs ys at fits same =
+    let k : at + length ys - at ≡ length ys = omega arith in
     record {
-      next = omega (arith, long);
-      text = rw (k, same, ← long, drop-drop (length ys) at t) (sym (append_assoc (take at t) ys (drop (at + length ys) t)) ∙ sym (sets-eq ys t at (omega (arith, long))));
+      next = refl;
+      text =
+          rw (k, same, drop-drop (length ys) at t)
+          (sym (append_assoc (take at t) ys (drop (at + length ys) t)) ∙ sym (sets-eq ys t at fits));
     }
 
 module _ (x : ℕ) where

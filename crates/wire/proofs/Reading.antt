@@ -1,14 +1,15 @@
 -- A loop that fills a table from the file, at any item whose numbers are known. Assumes nothing.
-use mathlib.Core.Path.{◌≡◌, ap, ◌∙◌}
-use mathlib.Core.List.{List, append-nil}
+use mathlib.Core.Path.{◌≡◌, sym, ap, ap₂, ◌∙◌}
+use mathlib.Core.List.{List, ◌++◌, append-nil}
 use Prim.Native.Nat.{ℕ, ◌+◌, ◌*◌, ◌≤◌, ◌<◌}
 use native.Mathlib.Omega.{arith}
-use lib.ListN.{length, set, drop, drop_of_length-le}
+use lib.ListN.{length, set, take, drop, drop_of_length-le}
+use lib.Seq.{length-take-le}
 use Rattle.std.specs.Prelude.{map}
-use Rattle.std.proofs.lemmas.List.{length-map, map-set}
+use Rattle.std.proofs.lemmas.List.{length-map, map-set, map-append, drop-map}
 use Rattle.walk.proofs.Loop.{Filling, fill_start, fill_pass, fill_end}
 use Rattle.wire.specs.Words.{word}
-use Rattle.wire.specs.Blocks.{block_of, numbers}
+use Rattle.wire.specs.Blocks.{block_of, numbers, overwritten}
 
 module _ {A : Type 0} (table : List A → List ℕ) (number : A → ℕ) (each : (xs : List A) → table xs ≡ map number xs) where
   table_length : (xs : List A) → length (table xs) ≡ length xs
@@ -34,3 +35,15 @@ module _ {A : Type 0} (table : List A → List ℕ) (number : A → ℕ) (each :
   all_read width file at {start = start} w h =
       let short : length (table start) ≤ length start = omega (arith, table_length start) in
       fill_end w h ∙ rw (drop_of_length-le (table start) short) (append-nil _)
+
+  -- numbers that went into the first entries overwrite them
+  pub front_read : (width : ℕ) (file : List ℕ) (at count : ℕ) (start now : List A) → count ≤ length start
+      → table now ≡ numbers (block_of width (length (take count start))) file at
+      → table (now ++ drop count start) ≡ overwritten (block_of width count) file at (table start)
+  unfolding overwritten
+  front_read width file at count start now h e =
+      each (now ++ drop count start)
+      ∙ map-append number now (drop count start)
+      ∙ ap₂ ◌++◌
+      (sym (each now) ∙ e ∙ ap (λ n. numbers (block_of width n) file at) (length-take-le count start h))
+      (sym (drop-map number count start) ∙ ap (drop count) (sym (each start)))

@@ -8,6 +8,18 @@ ghost use Rattle.wire.specs.Blocks.{block_of, numbers};
 ghost use Rattle.wire.specs.Sections.{spelled};
 ghost use Rattle.wire.specs.Word.{each_itself, spelled_none, spelled_cons, bytes_length};
 
+// The bytes that a number takes: a byte, a word or a long word.
+#[derive(Clone, Copy)]
+pub struct Width {}
+
+impl Width {
+    pub const BYTE: usize = 1;
+
+    pub const WORD: usize = 4;
+
+    pub const LONG: usize = 8;
+}
+
 // A number that stands in a file: a byte, a word or a long word.
 pub trait Word: Copy {
     // The bytes that it takes.
@@ -45,8 +57,18 @@ pub trait Word: Copy {
     ghost counted: { (x : Self) → length (text x) ≡ BYTES };
 }
 
+// Puts bytes into a file as they lie, from a place on, and answers the next place.
+fn copy(file: &mut [u8], at: usize, bytes: &[u8]) -> usize
+    requires { at + length bytes.now ≤ length file.old }
+    ensures { Put file.old file.new at result bytes.now }
+{
+    let end = at + bytes.len();
+    file[at..end].copy_from_slice(bytes);
+    end
+}
+
 impl Word for u8 {
-    const BYTES: usize = 1;
+    const BYTES: usize = Width::BYTE;
 
     ghost BYTES = { 1 };
 
@@ -72,12 +94,12 @@ impl Word for u8 {
 
     fn put(self, file: &mut [u8], at: usize) -> usize {
         file[at] = self;
-        at + Self::BYTES
+        at + Width::BYTE
     }
 }
 
 impl Word for u32 {
-    const BYTES: usize = 4;
+    const BYTES: usize = Width::WORD;
 
     ghost BYTES = { 4 };
 
@@ -102,14 +124,12 @@ impl Word for u32 {
     }
 
     fn put(self, file: &mut [u8], at: usize) -> usize {
-        let end = at + Self::BYTES;
-        file[at..end].copy_from_slice(&self.to_be_bytes());
-        end
+        copy(file, at, &u32::to_be_bytes(self))
     }
 }
 
 impl Word for u64 {
-    const BYTES: usize = 8;
+    const BYTES: usize = Width::LONG;
 
     ghost BYTES = { 8 };
 
@@ -143,9 +163,7 @@ impl Word for u64 {
     }
 
     fn put(self, file: &mut [u8], at: usize) -> usize {
-        let end = at + Self::BYTES;
-        file[at..end].copy_from_slice(&self.to_be_bytes());
-        end
+        copy(file, at, &u64::to_be_bytes(self))
     }
 }
 

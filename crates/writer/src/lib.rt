@@ -11,7 +11,7 @@ ghost use Rattle.writer.specs.Room.{HeadRoom};
 
 use certfile::Header;
 use model::Verdict;
-use wire::Width;
+use wire::{Width, Word};
 
 // What writing a file answers.
 #[derive(Clone, Copy)]
@@ -49,11 +49,11 @@ fn head(file: &mut [u8], h: Header, bytes: usize) -> usize
     ensures { Put file.old file.new 0 result (written (sections_of header_blocks (heads h))) }
 {
     let after = (bytes - Width::WORD) as u32;
-    let version = wire::put32(file, Header::LENGTH_AT, after);
-    let kind = wire::put8(file, version, Header::VERSION);
-    let rest = wire::put8(file, kind, h.kind as u8);
+    let version = after.put(file, Header::LENGTH_AT);
+    let kind = Header::VERSION.put(file, version);
+    let rest = (h.kind as u8).put(file, kind);
     let numbers = [h.d, h.c, h.n, h.m, h.b];
-    wire::spell32(file, rest, &numbers)
+    wire::spell(file, rest, &numbers)
 }
 
 // The answer that a verdict gives.
@@ -177,13 +177,13 @@ pub fn write(
         destinations.len(),
     );
     let at = head(buffer, h, bytes);
-    let at = wire::copy8(buffer, at, marks);
-    let at = wire::spell32(buffer, at, action_starts);
-    let at = wire::spell32(buffer, at, branch_starts);
-    let at = wire::spell32(buffer, at, destinations);
-    let at = wire::spell32(buffer, at, weights);
-    let at = wire::spell32(buffer, at, costs);
-    let at = wire::spell64(buffer, at, claims);
-    wire::spell32(buffer, at, ranks);
+    let at = wire::spell(buffer, at, marks);
+    let at = wire::spell(buffer, at, action_starts);
+    let at = wire::spell(buffer, at, branch_starts);
+    let at = wire::spell(buffer, at, destinations);
+    let at = wire::spell(buffer, at, weights);
+    let at = wire::spell(buffer, at, costs);
+    let at = wire::spell(buffer, at, claims);
+    wire::spell(buffer, at, ranks);
     Written::Length { bytes }
 }

@@ -5,17 +5,17 @@ use Rattle.walk.proofs.Putting.{put_then, put_same}
 use Rattle.report.proofs.Digits.{decimal_more, length_one, length_more}
 use Rattle.report.proofs.+number.Goals as goal
 
-pub put8-requires : goal.put8-requires
-put8-requires t c = omega (arith, length_one c.args.n (omega arith))
+pub put-requires : goal.put-requires
+put-requires t c = omega (arith, length_one c.args.n (omega arith))
 
 pub number-next-requires : goal.number-next-requires
 number-next-requires t c =
     (omega arith, omega (arith, length_more c.args.n (omega arith), c.requires))
 
-pub put8-requires-2 : goal.put8-requires-2
-put8-requires-2 t c =
+pub put-requires-2 : goal.put-requires-2
+put-requires-2 t c =
     omega (arith, length_more c.args.n (omega arith), c.requires, c.number-next.ensures.next)
 
 pub returns : goal.returns
 returns t c =
-    put_same (put_then c.number-next.ensures c.put8-2.ensures) (sym (decimal_more _ (omega arith)))
+    put_same (put_then c.number-next.ensures c.put-2.ensures) (sym (decimal_more _ (omega arith)))

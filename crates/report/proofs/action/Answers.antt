@@ -7,7 +7,7 @@ use Rattle.report.proofs.Digits.{dashed_none, dashed_number}
 use Rattle.report.proofs.action.Goals as goal
 
 pub returns-then-n-eq-NONE-clause-put : goal.returns-then-n-eq-NONE-clause-put
-returns-then-n-eq-NONE-clause-put c = put_same (put_then c.put8-next.ensures c.put8.ensures) (ap field (sym (dashed_none _ c.if-n-eq-NONE.true)))
+returns-then-n-eq-NONE-clause-put c = put_same (put_then c.put-next.ensures c.put.ensures) (ap field (sym (dashed_none _ c.if-n-eq-NONE.true)))
 
 pub returns-clause-put : goal.returns-clause-put
 returns-clause-put c = put_same c.spaced.ensures.put (ap field (sym (dashed_number _ (λ e. omega arith))))

@@ -14,14 +14,14 @@ pub action-end-requires : goal.action-end-requires
 action-end-requires c =
     omega (arith, short64 c.args.state c.ranges.state, c.number-name.ensures.next)
 
-pub put8-requires : goal.put8-requires
-put8-requires c =
+pub put-requires : goal.put-requires
+put-requires c =
     omega (arith, short64 c.args.state c.ranges.state, c.number-name.ensures.next, c.action-end.ensures.short)
 
 pub returns-clause-put : goal.returns-clause-put
 unfolding line line_of
-returns-clause-put c = put_same (put_then (put_then c.number-name.ensures c.action-end.ensures.put) c.put8.ensures) (simp append_assoc)
+returns-clause-put c = put_same (put_then (put_then c.number-name.ensures c.action-end.ensures.put) c.put.ensures) (simp append_assoc)
 
 pub returns-clause-short : goal.returns-clause-short
 unfolding line line_of
-returns-clause-short c = omega (arith, short64 c.args.state c.ranges.state, c.number-name.ensures.next, c.action-end.ensures.short, c.put8.ensures.next)
+returns-clause-short c = omega (arith, short64 c.args.state c.ranges.state, c.number-name.ensures.next, c.action-end.ensures.short, c.put.ensures.next)

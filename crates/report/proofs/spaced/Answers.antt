@@ -5,7 +5,7 @@ use Rattle.report.proofs.spaced.Goals as goal
 
 pub number-requires : goal.number-requires
 number-requires c =
-    omega (arith, short32 c.args.n c.ranges.n, c.put8-next.ensures.next)
+    omega (arith, short32 c.args.n c.ranges.n, c.put-next.ensures.next)
 
 pub returns-clause-short : goal.returns-clause-short
-returns-clause-short c = omega (arith, short32 c.args.n c.ranges.n, c.put8-next.ensures.next, c.number.ensures.next)
+returns-clause-short c = omega (arith, short32 c.args.n c.ranges.n, c.put-next.ensures.next, c.number.ensures.next)
