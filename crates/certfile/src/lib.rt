@@ -110,8 +110,18 @@ pub fn read(
     let count = layout::counts_of(h);
     let place = layout::places_of(h);
     reader::fill(file, place.marks, marks, count.marks);
-    reader::fill(file, place.action_starts, action_starts, count.action_starts);
-    reader::fill(file, place.branch_starts, branch_starts, count.branch_starts);
+    reader::fill(
+        file,
+        place.action_starts,
+        action_starts,
+        count.action_starts,
+    );
+    reader::fill(
+        file,
+        place.branch_starts,
+        branch_starts,
+        count.branch_starts,
+    );
     reader::fill(file, place.destinations, destinations, count.destinations);
     reader::fill(file, place.weights, weights, count.weights);
     reader::fill(file, place.costs, costs, count.costs);

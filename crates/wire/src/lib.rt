@@ -27,7 +27,8 @@ pub trait Word: Copy {
 
     ghost BYTES: { ℕ };
 
-    // Which number it is, and which numbers a table of them holds.
+    // Which number it is, and which numbers a table of them holds: at each width these are the item and the table themselves, so a clause
+    // reads there as if it had no bound.
     ghost number: { Self → ℕ };
 
     ghost table: { List Self → List ℕ };
@@ -172,8 +173,8 @@ pub fn fill<W: Word>(file: &[u8], at: usize, table: &mut [W])
     requires { at + length table.old * W.BYTES ≤ length file.now }
     ensures { W.table table.new ≡ numbers (block_of W.BYTES (length table.old)) file.now at }
 {
-    for i in 0..table.len() {
-        table[i] = W::read(file, at + i * W::BYTES);
+    for (i, entry) in table.iter_mut().enumerate() {
+        *entry = W::read(file, at + i * W::BYTES);
     }
 }
 

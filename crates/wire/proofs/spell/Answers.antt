@@ -5,16 +5,23 @@ use Rattle.wire.proofs.Spelled.{spell_start, spell_room, spell_pass, spell_end}
 use Rattle.wire.proofs.spell.Goals as goal
 
 pub loop-x-init : goal.loop-x-init
-loop-x-init g c = let w = g.met.W.Word in spell_start g.W.Word.texts g.W.Word.text g.W.Word.BYTES w.no_bytes w.more_bytes w.counted _ _ _
+loop-x-init g c =
+    let w = g.met.W.Word in
+    spell_start g.W.Word.texts g.W.Word.text g.W.Word.BYTES w.no_bytes w.more_bytes w.counted _ _ _
 
 pub put-end-requires : goal.put-end-requires
-put-end-requires g c = let w = g.met.W.Word in
-    spell_room g.W.Word.texts g.W.Word.text g.W.Word.BYTES w.no_bytes w.more_bytes w.counted c.loop-x.invariant (search rules) (omega (arith, c.requires, c.loop-x.auto.file))
+put-end-requires g c =
+    let w = g.met.W.Word in
+    spell_room g.W.Word.texts g.W.Word.text g.W.Word.BYTES w.no_bytes w.more_bytes w.counted c.loop-x.invariant (search rules)
+    (omega (arith, c.requires, c.loop-x.auto.file))
 
 pub loop-x-preserved : goal.loop-x-preserved
-loop-x-preserved g c = let w = g.met.W.Word in
-    spell_pass g.W.Word.texts g.W.Word.text g.W.Word.BYTES w.no_bytes w.more_bytes w.counted c.loop-x.invariant _ (search rules) c.x-item.is c.put-end.ensures
+loop-x-preserved g c =
+    let w = g.met.W.Word in
+    spell_pass g.W.Word.texts g.W.Word.text g.W.Word.BYTES w.no_bytes w.more_bytes w.counted c.loop-x.invariant _ (search rules)
+    c.x-item.is c.put-end.ensures
 
 pub returns : goal.returns
-returns g c = let w = g.met.W.Word in
+returns g c =
+    let w = g.met.W.Word in
     spell_end g.W.Word.texts g.W.Word.text g.W.Word.BYTES w.no_bytes w.more_bytes w.counted c.loop-x.invariant (search rules)
