@@ -14,7 +14,7 @@ fn length_field_right(file: &[u8]) -> bool
     ensures { result ≡ length_field_right file.now }
 {
     Header::BYTES <= file.len()
-        && reader::number(file, Header::LENGTH_AT) as usize == file.len() - Width::WORD
+        && reader::word::<u32>(file, Header::LENGTH_AT) as usize == file.len() - Width::WORD
 }
 
 // 32: the version is the one that is read.
@@ -22,7 +22,7 @@ fn version_right(file: &[u8]) -> bool
     requires { size header_blocks ≤ length file.now }
     ensures { result ≡ version_right file.now }
 {
-    reader::byte(file, Header::VERSION_AT) == Header::VERSION
+    reader::word::<u8>(file, Header::VERSION_AT) == Header::VERSION
 }
 
 // Each lent table has room for its block.

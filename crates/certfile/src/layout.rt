@@ -81,11 +81,11 @@ pub fn header_of(file: &[u8]) -> Header
     ensures { result ≡ header_of file.now }
 {
     Header {
-        kind: reader::byte(file, Header::KIND_AT) as u32,
-        d: reader::number(file, Header::D_AT),
-        c: reader::number(file, Header::C_AT),
-        n: reader::number(file, Header::N_AT),
-        m: reader::number(file, Header::M_AT),
-        b: reader::number(file, Header::B_AT),
+        kind: reader::word::<u8>(file, Header::KIND_AT) as u32,
+        d: reader::word(file, Header::D_AT),
+        c: reader::word(file, Header::C_AT),
+        n: reader::word(file, Header::N_AT),
+        m: reader::word(file, Header::M_AT),
+        b: reader::word(file, Header::B_AT),
     }
 }

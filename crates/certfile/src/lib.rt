@@ -64,28 +64,28 @@ pub fn read(file: &[u8], lent: &mut Lent) -> Result<Header, Fault>
     let h = judge::judge(file, lent.lengths())?;
     let count = layout::counts_of(h);
     let place = layout::places_of(h);
-    reader::read8(file, place.marks, lent.marks, count.marks);
-    reader::read32(
+    reader::fill(file, place.marks, lent.marks, count.marks);
+    reader::fill(
         file,
         place.action_starts,
         lent.action_starts,
         count.action_starts,
     );
-    reader::read32(
+    reader::fill(
         file,
         place.branch_starts,
         lent.branch_starts,
         count.branch_starts,
     );
-    reader::read32(
+    reader::fill(
         file,
         place.destinations,
         lent.destinations,
         count.destinations,
     );
-    reader::read32(file, place.weights, lent.weights, count.weights);
-    reader::read32(file, place.costs, lent.costs, count.costs);
-    reader::read64(file, place.claims, lent.claims, count.claims);
-    reader::read32(file, place.ranks, lent.ranks, count.ranks);
+    reader::fill(file, place.weights, lent.weights, count.weights);
+    reader::fill(file, place.costs, lent.costs, count.costs);
+    reader::fill(file, place.claims, lent.claims, count.claims);
+    reader::fill(file, place.ranks, lent.ranks, count.ranks);
     Ok(h)
 }

@@ -7,6 +7,7 @@ ghost use Rattle.report.specs.Puts.{Same, Puts};
 ghost use Rattle.walk.specs.Put.{Put};
 
 use model::{Rank, Verdict};
+use wire::Word;
 
 // The most bytes that the verdict's line and the line of a choice take.
 #[derive(Clone, Copy)]
@@ -38,7 +39,7 @@ impl<'a> Text<'a> {
         ensures same { Same self.old self.new }
         ensures put { Puts self.old self.new (x ∷ []) }
     {
-        self.at = wire::put8(self.bytes, self.at, x);
+        self.at = x.put(self.bytes, self.at);
     }
 
     fn word(&mut self, word: &[u8])
@@ -46,7 +47,7 @@ impl<'a> Text<'a> {
         ensures same { Same self.old self.new }
         ensures put { Puts self.old self.new word.now }
     {
-        self.at = wire::copy8(self.bytes, self.at, word);
+        self.at = wire::spell(self.bytes, self.at, word);
     }
 
     // The digits of a number, with no zero in front.

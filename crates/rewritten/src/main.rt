@@ -10,15 +10,16 @@ use program::Room;
 use report::Longest;
 use std::io;
 use std::io::Write;
+use wire::Word;
 
 // Each of these puts a line at the beginning of the text, and answers its length: a word and a number.
 fn counted(word: &[u8], n: u32, text: &mut [u8]) -> usize
     requires { length word.now + 12 ≤ length text.old }
     ensures { result ≤ length text.new }
 {
-    let name = wire::copy8(text, 0, word);
+    let name = wire::spell(text, 0, word);
     let at = report::spaced(text, name, n);
-    wire::put8(text, at, b'\n')
+    b'\n'.put(text, at)
 }
 
 // Whether the bytes that were written are the file's.

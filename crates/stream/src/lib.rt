@@ -11,7 +11,7 @@ ghost use Rattle.stream.specs.Calls.{CallsOnEach};
 
 use std::io;
 use std::io::Read;
-use wire::Width;
+use wire::{Width, Word};
 
 // Reads to the front of the lent bytes until they are full or the input ends: how many were read. After an error some were.
 // `read_exact` and `io::copy` don't fit: they try an interrupted read again, and don't say how many bytes came before the end.
@@ -64,7 +64,7 @@ pub fn read<R: Read>(input: &mut R, file: &mut [u8]) -> io::Result<Option<usize>
     if fill(input, &mut head)? < Width::WORD {
         return Ok(None);
     }
-    let length = wire::word32(&head, 0) as usize;
+    let length = u32::read(&head, 0) as usize;
     let most = length.min(file.len());
     let bytes = fill(input, &mut file[..most])?;
     skip(input, length - most)?;

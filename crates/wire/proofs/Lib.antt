@@ -1,6 +1,4 @@
-pub mod Swap
-pub mod Fill
-pub mod First
+pub mod Reading
 pub mod Spelled
-pub mod Parts
 pub mod RoundTrip
+pub mod Copied

@@ -14,7 +14,8 @@ use Rattle.walk.proofs.Fold.{down, listed_end, listed_step, listed_length, liste
 use Rattle.wire.specs.Words.{word, bytes}
 use Rattle.wire.specs.Blocks.{Block, block_of, size, place, block, numbers}
 use Rattle.wire.specs.Sections.{Section, filled, spelled, written, blocks_of, section, sections_in}
-use Rattle.wire.proofs.Spelled.{bytes_length, spelled_length}
+use Rattle.wire.specs.Word.{bytes_length}
+use Rattle.wire.proofs.Spelled.{spelled_length}
 
 -- a word and its bytes
 

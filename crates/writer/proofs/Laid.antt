@@ -10,7 +10,8 @@ use Rattle.model.specs.Tables.{Model, Claim}
 use Rattle.wire.specs.Words.{bytes}
 use Rattle.wire.specs.Blocks.{size}
 use Rattle.wire.specs.Sections.{sections_of, spelled, written}
-use Rattle.wire.proofs.Spelled.{bytes_length, spelled_length, spell_ends}
+use Rattle.wire.specs.Word.{bytes_length}
+use Rattle.wire.proofs.Spelled.{spelled_length, spell_ends}
 use Rattle.wire.proofs.RoundTrip.{bytes_spelled}
 use Rattle.certfile.specs.declared.Header.{Header}
 use Rattle.certfile.specs.File.{header_blocks, announced, blocks}

@@ -12,7 +12,7 @@ ghost use Rattle.writer.specs.Written.{written_in};
 
 use certfile::Header;
 use model::{Claim, Fault, Model, Refusal};
-use wire::Width;
+use wire::{Width, Word};
 
 // What a file says before its tables.
 fn header(kind: u32, t: &Model, u: &Claim) -> Header
@@ -37,11 +37,11 @@ fn head(file: &mut [u8], h: Header, bytes: usize) -> usize
     ensures { Put file.old file.new 0 result (written (sections_of header_blocks (heads h))) }
 {
     let after = (bytes - Width::WORD) as u32;
-    let version = wire::put32(file, Header::LENGTH_AT, after);
-    let kind = wire::put8(file, version, Header::VERSION);
-    let rest = wire::put8(file, kind, h.kind as u8);
+    let version = after.put(file, Header::LENGTH_AT);
+    let kind = Header::VERSION.put(file, version);
+    let rest = (h.kind as u8).put(file, kind);
     let numbers = [h.d, h.c, h.n, h.m, h.b];
-    wire::spell32(file, rest, &numbers)
+    wire::spell(file, rest, &numbers)
 }
 
 // What writing the file into a buffer of so many bytes would answer: its length, or the first refusal: 1 to 14 as the checker gives
@@ -62,13 +62,13 @@ pub fn write(kind: u32, t: &Model, u: &Claim, buffer: &mut [u8]) -> Result<usize
 {
     let bytes = preview(kind, t, u, buffer.len())?;
     let at = head(buffer, header(kind, t, u), bytes);
-    let at = wire::copy8(buffer, at, t.marks);
-    let at = wire::spell32(buffer, at, t.action_starts);
-    let at = wire::spell32(buffer, at, t.branch_starts);
-    let at = wire::spell32(buffer, at, t.destinations);
-    let at = wire::spell32(buffer, at, t.weights);
-    let at = wire::spell32(buffer, at, u.costs);
-    let at = wire::spell64(buffer, at, u.claims);
-    wire::spell32(buffer, at, u.ranks);
+    let at = wire::spell(buffer, at, t.marks);
+    let at = wire::spell(buffer, at, t.action_starts);
+    let at = wire::spell(buffer, at, t.branch_starts);
+    let at = wire::spell(buffer, at, t.destinations);
+    let at = wire::spell(buffer, at, t.weights);
+    let at = wire::spell(buffer, at, u.costs);
+    let at = wire::spell(buffer, at, u.claims);
+    wire::spell(buffer, at, u.ranks);
     Ok(bytes)
 }

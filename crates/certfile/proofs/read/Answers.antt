@@ -7,31 +7,31 @@ use Rattle.certfile.proofs.read.Goals as goal
 pub returns-in_default : goal.returns-in_default
 returns-in_default c = rw c.in_default.is (untouched _ _ _ _ (sym c.in_default.is ∙ c.judge-outcome.ensures))
 
-pub read8-requires : goal.read8-requires
-read8-requires c = (rooms _ _ _ _ _ c.places_of-place.ensures c.counts_of-count.ensures.counts (sym c.judge-outcome.ensures ∙ c.in-Read.is)).marks
+pub fill-requires : goal.fill-requires
+fill-requires c = (rooms _ _ _ _ _ c.places_of-place.ensures c.counts_of-count.ensures.counts (sym c.judge-outcome.ensures ∙ c.in-Read.is)).marks
 
-pub read32-requires : goal.read32-requires
-read32-requires c = (rooms _ _ _ _ _ c.places_of-place.ensures c.counts_of-count.ensures.counts (sym c.judge-outcome.ensures ∙ c.in-Read.is)).action_starts
+pub fill-requires-2 : goal.fill-requires-2
+fill-requires-2 c = (rooms _ _ _ _ _ c.places_of-place.ensures c.counts_of-count.ensures.counts (sym c.judge-outcome.ensures ∙ c.in-Read.is)).action_starts
 
-pub read32-requires-2 : goal.read32-requires-2
-read32-requires-2 c = (rooms _ _ _ _ _ c.places_of-place.ensures c.counts_of-count.ensures.counts (sym c.judge-outcome.ensures ∙ c.in-Read.is)).branch_starts
+pub fill-requires-3 : goal.fill-requires-3
+fill-requires-3 c = (rooms _ _ _ _ _ c.places_of-place.ensures c.counts_of-count.ensures.counts (sym c.judge-outcome.ensures ∙ c.in-Read.is)).branch_starts
 
-pub read32-requires-3 : goal.read32-requires-3
-read32-requires-3 c = (rooms _ _ _ _ _ c.places_of-place.ensures c.counts_of-count.ensures.counts (sym c.judge-outcome.ensures ∙ c.in-Read.is)).destinations
+pub fill-requires-4 : goal.fill-requires-4
+fill-requires-4 c = (rooms _ _ _ _ _ c.places_of-place.ensures c.counts_of-count.ensures.counts (sym c.judge-outcome.ensures ∙ c.in-Read.is)).destinations
 
-pub read32-requires-4 : goal.read32-requires-4
-read32-requires-4 c = (rooms _ _ _ _ _ c.places_of-place.ensures c.counts_of-count.ensures.counts (sym c.judge-outcome.ensures ∙ c.in-Read.is)).weights
+pub fill-requires-5 : goal.fill-requires-5
+fill-requires-5 c = (rooms _ _ _ _ _ c.places_of-place.ensures c.counts_of-count.ensures.counts (sym c.judge-outcome.ensures ∙ c.in-Read.is)).weights
 
-pub read32-requires-5 : goal.read32-requires-5
-read32-requires-5 c = (rooms _ _ _ _ _ c.places_of-place.ensures c.counts_of-count.ensures.counts (sym c.judge-outcome.ensures ∙ c.in-Read.is)).costs
+pub fill-requires-6 : goal.fill-requires-6
+fill-requires-6 c = (rooms _ _ _ _ _ c.places_of-place.ensures c.counts_of-count.ensures.counts (sym c.judge-outcome.ensures ∙ c.in-Read.is)).costs
 
-pub read64-requires : goal.read64-requires
-read64-requires c = (rooms _ _ _ _ _ c.places_of-place.ensures c.counts_of-count.ensures.counts (sym c.judge-outcome.ensures ∙ c.in-Read.is)).claims
+pub fill-requires-7 : goal.fill-requires-7
+fill-requires-7 c = (rooms _ _ _ _ _ c.places_of-place.ensures c.counts_of-count.ensures.counts (sym c.judge-outcome.ensures ∙ c.in-Read.is)).claims
 
-pub read32-requires-6 : goal.read32-requires-6
-read32-requires-6 c = (rooms _ _ _ _ _ c.places_of-place.ensures c.counts_of-count.ensures.counts (sym c.judge-outcome.ensures ∙ c.in-Read.is)).ranks
+pub fill-requires-8 : goal.fill-requires-8
+fill-requires-8 c = (rooms _ _ _ _ _ c.places_of-place.ensures c.counts_of-count.ensures.counts (sym c.judge-outcome.ensures ∙ c.in-Read.is)).ranks
 
 pub returns : goal.returns
 returns c =
     all_filled _ _ _ _ _ c.places_of-place.ensures c.counts_of-count.ensures.counts (sym c.judge-outcome.ensures ∙ c.in-Read.is) _
-    c.read8.ensures c.read32.ensures c.read32-2.ensures c.read32-3.ensures c.read32-4.ensures c.read32-5.ensures c.read64.ensures c.read32-6.ensures
+    c.fill.ensures c.fill-2.ensures c.fill-3.ensures c.fill-4.ensures c.fill-5.ensures c.fill-6.ensures c.fill-7.ensures c.fill-8.ensures

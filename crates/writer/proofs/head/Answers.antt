@@ -8,28 +8,28 @@ use Rattle.writer.proofs.head.Goals as goal
 pub overflow_sub-after : goal.overflow_sub-after
 overflow_sub-after c = omega (arith, c.requires.counted, head_least c.args.h)
 
-pub put32-version-requires : goal.put32-version-requires
-put32-version-requires c = omega (arith, c.requires.room, header_bytes)
+pub put-version-requires : goal.put-version-requires
+put-version-requires c = omega (arith, c.requires.room, header_bytes)
 
-pub put8-kind-requires : goal.put8-kind-requires
-put8-kind-requires c =
-    let p = c.put32-version.ensures in
+pub put-kind-requires : goal.put-kind-requires
+put-kind-requires c =
+    let p = c.put-version.ensures in
     omega (arith, c.requires.room, header_bytes, put_length p, put_ends 4 _ p)
 
-pub put8-rest-requires : goal.put8-rest-requires
-put8-rest-requires c =
-    let p = c.put32-version.ensures in
-    let q = c.put8-kind.ensures in
+pub put-rest-requires : goal.put-rest-requires
+put-rest-requires c =
+    let p = c.put-version.ensures in
+    let q = c.put-kind.ensures in
     omega (arith, c.requires.room, header_bytes, put_length p, put_ends 4 _ p, put_length q, q.next)
 
-pub spell32-requires : goal.spell32-requires
-spell32-requires c =
-    let p = c.put32-version.ensures in
-    let q = c.put8-kind.ensures in
-    let r = c.put8-rest.ensures in
+pub spell-requires : goal.spell-requires
+spell-requires c =
+    let p = c.put-version.ensures in
+    let q = c.put-kind.ensures in
+    let r = c.put-rest.ensures in
     omega (arith, c.requires.room, header_bytes, put_length p, put_ends 4 _ p, put_length q, q.next, put_length r, r.next)
 
 pub returns : goal.returns
 returns c =
-    head_put _ _ _ c.requires c.put32-version.ensures c.put8-kind.ensures c.put8-rest.ensures
-    c.spell32.ensures
+    head_put _ _ _ c.requires c.put-version.ensures c.put-kind.ensures c.put-rest.ensures
+    c.spell.ensures

@@ -9,4 +9,4 @@ returns-then-file-lt-BYTES c = rw (lt-leb 26 _ c.if-file-lt-BYTES.true)
 
 pub returns : goal.returns
 unfolding length_field_right
-returns c = rw (le-leb 26 _ c.if-file-lt-BYTES.false, c.number-counted.ensures)
+returns c = rw (le-leb 26 _ c.if-file-lt-BYTES.false, c.word-counted.ensures)

@@ -4,10 +4,10 @@ use Rattle.wire.specs.Blocks.{size}
 use Rattle.certfile.specs.File.{version_right}
 use Rattle.certfile.proofs.judge.version_right.Goals as goal
 
-pub byte-requires : goal.byte-requires
+pub word-requires : goal.word-requires
 unfolding size
-byte-requires c = omega arith
+word-requires c = omega arith
 
 pub returns : goal.returns
 unfolding version_right
-returns c = rw c.byte.ensures
+returns c = rw c.word.ensures

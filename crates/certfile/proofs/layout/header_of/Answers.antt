@@ -4,38 +4,38 @@ use Rattle.wire.specs.Blocks.{size}
 use Rattle.certfile.specs.File.{header_of}
 use Rattle.certfile.proofs.layout.header_of.Goals as goal
 
-pub byte-requires : goal.byte-requires
+pub word-requires : goal.word-requires
 unfolding size
-byte-requires c = omega arith
+word-requires c = omega arith
 
-pub number-requires : goal.number-requires
+pub word-requires-2 : goal.word-requires-2
 unfolding size
-number-requires c = omega arith
+word-requires-2 c = omega arith
 
-pub number-requires-2 : goal.number-requires-2
+pub word-requires-3 : goal.word-requires-3
 unfolding size
-number-requires-2 c = omega arith
+word-requires-3 c = omega arith
 
-pub number-requires-3 : goal.number-requires-3
+pub word-requires-4 : goal.word-requires-4
 unfolding size
-number-requires-3 c = omega arith
+word-requires-4 c = omega arith
 
-pub number-requires-4 : goal.number-requires-4
+pub word-requires-5 : goal.word-requires-5
 unfolding size
-number-requires-4 c = omega arith
+word-requires-5 c = omega arith
 
-pub number-requires-5 : goal.number-requires-5
+pub word-requires-6 : goal.word-requires-6
 unfolding size
-number-requires-5 c = omega arith
+word-requires-6 c = omega arith
 
 pub returns : goal.returns
 unfolding header_of
 returns c =
     λ i. record {
-      kind = c.byte.ensures i;
-      d = c.number.ensures i;
-      c = c.number-2.ensures i;
-      n = c.number-3.ensures i;
-      m = c.number-4.ensures i;
-      b = c.number-5.ensures i;
+      kind = c.word.ensures i;
+      d = c.word-2.ensures i;
+      c = c.word-3.ensures i;
+      n = c.word-4.ensures i;
+      m = c.word-5.ensures i;
+      b = c.word-6.ensures i;
     }
