@@ -12,8 +12,7 @@ use Rattle.model.specs.Limits.{most_states, most_actions, most_branches}
 use Rattle.model.specs.Kinds.{is_kind}
 use Rattle.wire.specs.Blocks.{Block, size, place, block, block_of, overwritten}
 use Rattle.certfile.specs.declared.Header.{Header}
-use Rattle.certfile.specs.declared.Outcome.{Outcome}
-use Rattle.certfile.specs.declared.Outcome.TheVariants.{Read, Refused}
+use Rattle.certfile.specs.Outcome.{Outcome, Read, Refused}
 use Rattle.certfile.specs.File.{header_of, announced, blocks, roomy, counts_right, length_right, length_field_right, version_right, outcome_of, table_of}
 use Rattle.certfile.specs.Layout.{table_place, counts_of, places_of}
 use Rattle.certfile.specs.Tables.{Tables, lent, Roomy, ReadInto}
@@ -94,13 +93,16 @@ pub record Rooms (place count : Lengths) (file : List ℕ) (t : Tables) : Type 0
   pub claims : (place.claims + count.claims * 8 ≤ length file) × (count.claims ≤ length t.claims)
   pub ranks : (place.ranks + count.ranks * 4 ≤ length file) × (count.ranks ≤ length t.ranks)
 
-module _ (h : Header) (place count : Lengths) (file : List ℕ) (t : Tables) (p : place ≡ places_of h) (q : count ≡ counts_of h)
-    (e : outcome_of (lent t) file ≡ Read h) where
+module _ (h : Header) (place count : Lengths) (l file : List ℕ) (t : Tables) (p : place ≡ places_of h) (q : count ≡ counts_of h)
+    (f : l ≡ lent t) (e : Read h ≡ outcome_of l file) where
+  read_so : outcome_of (lent t) file ≡ Read h
+  read_so = rw (sym f) (sym e)
+
   pub rooms : Rooms place count file t
   unfolding block announced
   rooms =
-      let lies = inside h file (passed (lent t) file h e).long in
-      let fits = has_room (lent t) file h e in
+      let lies = inside h file (passed (lent t) file h read_so).long in
+      let fits = has_room (lent t) file h read_so in
       rw (p, q)
       (record {
         marks = (lies 0, fits 0);
@@ -127,7 +129,7 @@ module _ (h : Header) (place count : Lengths) (file : List ℕ) (t : Tables) (p 
   unfolding table_of table_place
   all_filled u e1 e2 e3 e4 e5 e6 e7 e8 =
       record {
-        answer = sym e;
+        answer = sym read_so;
         marks = e1 ∙ rw (p, q);
         action_starts = e2 ∙ rw (p, q);
         branch_starts = e3 ∙ rw (p, q);
@@ -156,11 +158,12 @@ pub read_roomy : (o : Outcome) (file : List ℕ) (t u : Tables) → ReadInto o f
 read_roomy o file t u w h e kept = subst (λ (l : List ℕ). Roomy h l) (sym kept) (has_room (lent t) file h (sym w.answer ∙ e))
 
 -- a refusal leaves each table as it was
-pub untouched : (number place : ℕ) (file : List ℕ) (t : Tables) → Refused number place ≡ outcome_of (lent t) file → ReadInto (Refused number place) file t t
+pub untouched : (number place : ℕ) (l file : List ℕ) (t : Tables) → l ≡ lent t → Refused number place ≡ outcome_of l file
+    → ReadInto (Refused number place) file t t
 unfolding table_of
-untouched number place file t e =
+untouched number place l file t f e =
     record {
-      answer = e;
+      answer = e ∙ rw f refl;
       marks = refl;
       action_starts = refl;
       branch_starts = refl;
