@@ -71,3 +71,6 @@ both_true false b e = absurd (subst T (sym e) tt)
 pub has_header : (file : List ℕ) → length_field_right file ≡ true → size header_blocks ≤ length file
 unfolding length_field_right
 has_header file e = leb-true (size header_blocks) (length file) (both_true (leb (size header_blocks) (length file)) (eqb (word 4 file 0) (length file - 4)) e).0
+
+-- what a test that is passed or refused says, and what the chain then answers
+pub ruleset judging = (judged, right_passed, wrong_refused, has_header)

@@ -55,16 +55,7 @@ fn counts_right(h: Header, room: Lengths) -> bool
 }
 
 // What reading the file into tables of these lengths answers.
-#[tactic(
-    auto,
-    using(
-        crate::proofs::Judged::judged,
-        crate::proofs::Judged::has_header,
-        crate::proofs::Judged::right_passed,
-        crate::proofs::Judged::wrong_refused,
-    ),
-    unfolding(crate::specs::File::length_right),
-)]
+#[tactic(auto, using(crate::proofs::Judged::judging), unfolding(crate::specs::File::length_right))]
 pub fn judge(file: &[u8], room: Lengths) -> Result<Header, Fault>
     ensures { outcome_in result ≡ outcome_of (listed room) file.now }
 {
