@@ -8,8 +8,7 @@ use Rattle.model.specs.Tables.{model_of, claim_of}
 use Rattle.wire.specs.Blocks.{block, numbers, overwritten}
 use Rattle.wire.proofs.RoundTrip.{numbers_length}
 use Rattle.certfile.specs.declared.Header.{Header}
-use Rattle.certfile.specs.declared.Outcome.{Outcome}
-use Rattle.certfile.specs.declared.Outcome.TheVariants.{Read}
+use Rattle.certfile.specs.Outcome.{Outcome, Read}
 use Rattle.certfile.specs.File.{announced, table_of}
 use Rattle.certfile.specs.Layout.{table_place}
 use Rattle.certfile.specs.Tables.{Tables, ReadInto}

@@ -1,7 +1,7 @@
 -- The first entries of tables that have room for a file, as its header counts them. Assumes nothing.
-use mathlib.Core.Path.{◌≡◌, sym}
+use mathlib.Core.Path.{◌≡◌, refl, sym}
 use mathlib.Core.List.{List}
-use Prim.Native.Nat.{ℕ, ◌≤◌}
+use Prim.Native.Nat.{ℕ, ◌-◌, ◌≤◌}
 use native.Mathlib.Omega.{arith}
 use lib.ListN.{length, take, length-take}
 use lib.Seq.{length-take-le}
@@ -11,8 +11,7 @@ use Rattle.wire.specs.Blocks.{block}
 use Rattle.certfile.specs.declared.Header.{Header}
 use Rattle.certfile.specs.File.{announced}
 use Rattle.certfile.specs.Layout.{counts_of}
-use Rattle.certfile.specs.declared.Outcome.{Outcome}
-use Rattle.certfile.specs.declared.Outcome.TheVariants.{Read}
+use Rattle.certfile.specs.Outcome.{Outcome, Read}
 use Rattle.certfile.specs.Tables.{Tables, lent, Roomy, ReadInto}
 use Rattle.certfile.specs.Contents.{cut, model_cut, claim_cut}
 use Rattle.certfile.proofs.Passed.{lengths_kept, read_roomy}
@@ -86,3 +85,8 @@ module _ (h : Header) (count : Lengths) (t : Tables) where
   pub claim-cut : count ≡ counts_of h → claim_taken ≡ claim_cut h t
   unfolding cut
   claim-cut q = rw q
+
+-- a table that is cut
+pub cut_is : (h : Header) (i : ℕ) (table : List ℕ) → cut h i table ≡ take (block (announced h) (i - 1)).count table
+unfolding cut
+cut_is h i table = refl

@@ -3,17 +3,18 @@ use mathlib.Core.Path.{◌≡◌, refl, sym, ap, subst, ◌∙◌}
 use mathlib.Core.Bool.{Bool, true, false, cond, ◌&&◌}
 use mathlib.Core.List.{List}
 use Prim.Native.Nat.{ℕ, ◌-◌, ◌≤◌}
+use native.Mathlib.Omega.{arith}
 use lib.Dec.{T, leb, eqb}
 use lib.ListN.{length}
 use borrow.Author.Tests.{leb-true}
 use Rattle.wire.specs.Words.{word}
 use Rattle.wire.specs.Blocks.{size}
 use Rattle.model.specs.declared.answers.Verdict.{Verdict}
-use Rattle.model.specs.Answers.{then, require}
+use Rattle.model.specs.declared.answers.Fault.{Fault}
+use Rattle.model.specs.Answers.{code, given, pass, then, require}
 use Rattle.model.specs.Kinds.{is_kind}
 use Rattle.certfile.specs.declared.Header.{Header}
-use Rattle.certfile.specs.declared.Outcome.{Outcome}
-use Rattle.certfile.specs.declared.Outcome.TheVariants.{Read, Refused}
+use Rattle.certfile.specs.Outcome.{Outcome, Read, Refused}
 use Rattle.certfile.specs.File.{header_blocks, header_of, length_field_right, version_right, counts_right, length_right, outcome, outcome_of}
 
 -- refused with this number, unless it is right: then what comes next
@@ -24,6 +25,17 @@ step : (h : Header) (right : Bool) (k : ℕ) (v : Verdict) → outcome h (then (
 unfolding outcome then require
 step h true k v = refl
 step h false k v = refl
+
+-- what was not refused is right, and the refusal of what is not is told
+pub right_passed : (right : Bool) (k : ℕ) → pass ≡ require right k 0 → right ≡ true
+unfolding require
+right_passed true k e = refl
+right_passed false k e = let z : ◌≡◌ {A = ℕ} 0 1 = cc in absurd (omega arith)
+
+pub wrong_refused : (right : Bool) (k : ℕ) (f : Fault) → given f ≡ require right k 0 → (right ≡ false) × ((code f.refusal ≡ k) × (f.place ≡ 0))
+unfolding require
+wrong_refused true k f e = let z : ◌≡◌ {A = ℕ} 0 1 = cc in absurd (omega arith)
+wrong_refused false k f e = (refl, (cc, cc))
 
 module _ (lent file : List ℕ) where
   abbrev h : Header
@@ -59,3 +71,6 @@ both_true false b e = absurd (subst T (sym e) tt)
 pub has_header : (file : List ℕ) → length_field_right file ≡ true → size header_blocks ≤ length file
 unfolding length_field_right
 has_header file e = leb-true (size header_blocks) (length file) (both_true (leb (size header_blocks) (length file)) (eqb (word 4 file 0) (length file - 4)) e).0
+
+-- what a test that is passed or refused says, and what the chain then answers
+pub ruleset judging = (judged, right_passed, wrong_refused, has_header)

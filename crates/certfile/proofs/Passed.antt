@@ -1,20 +1,21 @@
 -- A file that passed: each lent table has room for its block, which lies within the file. Assumes nothing.
-use mathlib.Core.Path.{◌≡◌, refl, sym, subst, ◌∙◌}
+use mathlib.Core.Path.{◌≡◌, refl, sym, ap, subst, ◌∙◌}
 use mathlib.Core.Bool.{Bool, true, false, ◌&&◌}
 use mathlib.Core.List.{List, [], ◌∷◌}
-use Prim.Native.Nat.{ℕ, zero, suc, ◌+◌, ◌*◌, ◌≤◌, zero-le}
+use Prim.Native.Nat.{ℕ, zero, suc, ◌+◌, ◌-◌, ◌*◌, ◌≤◌, zero-le}
 use native.Mathlib.Omega.{arith}
 use lib.Dec.{leb, eqb}
-use lib.ListN.{length, get_or}
+use lib.ListN.{length, get_or, drop, length-append, length-drop}
 use borrow.Author.Tests.{leb-true, eqb-true}
 use Rattle.model.specs.declared.tables.Lengths.{Lengths}
 use Rattle.model.specs.Limits.{most_states, most_actions, most_branches}
 use Rattle.model.specs.Kinds.{is_kind}
-use Rattle.wire.specs.Blocks.{Block, size, place, block, block_of, overwritten}
+use Rattle.wire.specs.Blocks.{Block, size, place, block, block_of, numbers, overwritten}
+use Rattle.wire.proofs.RoundTrip.{numbers_length}
 use Rattle.certfile.specs.declared.Header.{Header}
-use Rattle.certfile.specs.declared.Outcome.{Outcome}
-use Rattle.certfile.specs.declared.Outcome.TheVariants.{Read, Refused}
-use Rattle.certfile.specs.File.{header_of, announced, blocks, roomy, counts_right, length_right, length_field_right, version_right, outcome_of, table_of}
+use Rattle.certfile.specs.Outcome.{Outcome, Read, Refused}
+use Rattle.certfile.specs.File.{header_blocks, header_of, announced, blocks, outcome_of, table_of}
+use Rattle.certfile.specs.File.{roomy, counts_right, length_right, length_field_right, version_right}
 use Rattle.certfile.specs.Layout.{table_place, counts_of, places_of}
 use Rattle.certfile.specs.Tables.{Tables, lent, Roomy, ReadInto}
 use Rattle.certfile.proofs.Placed.{block_within}
@@ -94,13 +95,16 @@ pub record Rooms (place count : Lengths) (file : List ℕ) (t : Tables) : Type 0
   pub claims : (place.claims + count.claims * 8 ≤ length file) × (count.claims ≤ length t.claims)
   pub ranks : (place.ranks + count.ranks * 4 ≤ length file) × (count.ranks ≤ length t.ranks)
 
-module _ (h : Header) (place count : Lengths) (file : List ℕ) (t : Tables) (p : place ≡ places_of h) (q : count ≡ counts_of h)
-    (e : outcome_of (lent t) file ≡ Read h) where
+module _ (h : Header) (place count : Lengths) (l file : List ℕ) (t : Tables) (p : place ≡ places_of h) (q : count ≡ counts_of h)
+    (f : l ≡ lent t) (e : Read h ≡ outcome_of l file) where
+  read_so : outcome_of (lent t) file ≡ Read h
+  read_so = rw (sym f) (sym e)
+
   pub rooms : Rooms place count file t
   unfolding block announced
   rooms =
-      let lies = inside h file (passed (lent t) file h e).long in
-      let fits = has_room (lent t) file h e in
+      let lies = inside h file (passed (lent t) file h read_so).long in
+      let fits = has_room (lent t) file h read_so in
       rw (p, q)
       (record {
         marks = (lies 0, fits 0);
@@ -127,7 +131,7 @@ module _ (h : Header) (place count : Lengths) (file : List ℕ) (t : Tables) (p 
   unfolding table_of table_place
   all_filled u e1 e2 e3 e4 e5 e6 e7 e8 =
       record {
-        answer = sym e;
+        answer = sym read_so;
         marks = e1 ∙ rw (p, q);
         action_starts = e2 ∙ rw (p, q);
         branch_starts = e3 ∙ rw (p, q);
@@ -155,12 +159,48 @@ lengths_kept t u a b c d e f g h = rw (a, b, c, d, e, f, g, h)
 pub read_roomy : (o : Outcome) (file : List ℕ) (t u : Tables) → ReadInto o file t u → (h : Header) → o ≡ Read h → lent u ≡ lent t → Roomy h (lent u)
 read_roomy o file t u w h e kept = subst (λ (l : List ℕ). Roomy h l) (sym kept) (has_room (lent t) file h (sym w.answer ∙ e))
 
+-- a table that a block overwrites keeps its length
+overwritten_length : (x : Block) (file : List ℕ) (at : ℕ) (table : List ℕ) → x.count ≤ length table → length (overwritten x file at table) ≡ length table
+unfolding overwritten
+overwritten_length x file at table fits =
+    omega (
+      arith,
+      fits,
+      length-append (numbers x file at) (drop x.count table),
+      numbers_length x file at,
+      length-drop x.count table,
+    )
+
+module _ (h : Header) (file : List ℕ) (t u : Tables) (w : ReadInto (Read h) file t u) where
+  kept : (i : ℕ) (x y : List ℕ) → x ≡ table_of (Read h) i file y → (block (announced h) (i - 1)).count ≤ length y → length x ≡ length y
+  unfolding table_of
+  kept i x y e fits = ap length e ∙ overwritten_length (block (announced h) (i - 1)) file (size header_blocks + place (announced h) (i - 1)) y fits
+
+  -- so each lent table keeps its length where a file was read
+  pub lengths_read : lent u ≡ lent t
+  lengths_read =
+      let fits = has_room (lent t) file h (sym w.answer) in
+      lengths_kept t u
+      (kept 1 _ _ w.marks (fits 0))
+      (kept 2 _ _ w.action_starts (fits 1))
+      (kept 3 _ _ w.branch_starts (fits 2))
+      (kept 4 _ _ w.destinations (fits 3))
+      (kept 5 _ _ w.weights (fits 4))
+      (kept 6 _ _ w.costs (fits 5))
+      (kept 7 _ _ w.claims (fits 6))
+      (kept 8 _ _ w.ranks (fits 7))
+
+  -- and has room for its block
+  pub roomy_read : Roomy h (lent u)
+  roomy_read = subst (λ (l : List ℕ). Roomy h l) (sym lengths_read) (has_room (lent t) file h (sym w.answer))
+
 -- a refusal leaves each table as it was
-pub untouched : (number place : ℕ) (file : List ℕ) (t : Tables) → Refused number place ≡ outcome_of (lent t) file → ReadInto (Refused number place) file t t
+pub untouched : (number place : ℕ) (l file : List ℕ) (t : Tables) → l ≡ lent t → Refused number place ≡ outcome_of l file
+    → ReadInto (Refused number place) file t t
 unfolding table_of
-untouched number place file t e =
+untouched number place l file t f e =
     record {
-      answer = e;
+      answer = e ∙ rw f refl;
       marks = refl;
       action_starts = refl;
       branch_starts = refl;

@@ -10,6 +10,7 @@ use model::{Fault, Kind, Lengths, Model, Refusal};
 use wire::Width;
 
 // 31: at least a header, and the length field counts the bytes after it.
+#[tactic(auto, unfolding(crate::specs::File::length_field_right))]
 fn length_field_right(file: &[u8]) -> bool
     ensures { result ≡ length_field_right file.now }
 {
@@ -18,6 +19,7 @@ fn length_field_right(file: &[u8]) -> bool
 }
 
 // 32: the version is the one that is read.
+#[tactic(auto, unfolding(crate::specs::File::version_right, wire::specs::Blocks::size))]
 fn version_right(file: &[u8]) -> bool
     requires { size header_blocks ≤ length file.now }
     ensures { result ≡ version_right file.now }
@@ -26,6 +28,7 @@ fn version_right(file: &[u8]) -> bool
 }
 
 // Each lent table has room for its block.
+#[tactic(auto, unfolding(crate::specs::File::announced, crate::specs::File::roomy, wire::specs::Blocks::block))]
 fn all_roomy(h: Header, room: Lengths) -> bool
     ensures { result ≡ roomy (announced h) (listed room) }
 {
@@ -41,6 +44,7 @@ fn all_roomy(h: Header, room: Lengths) -> bool
 }
 
 // 33: no count over its limit, and no lent table that the kind has too short.
+#[tactic(auto, unfolding(crate::specs::File::counts_right))]
 fn counts_right(h: Header, room: Lengths) -> bool
     ensures { result ≡ counts_right h (listed room) }
 {
@@ -51,6 +55,7 @@ fn counts_right(h: Header, room: Lengths) -> bool
 }
 
 // What reading the file into tables of these lengths answers.
+#[tactic(auto, using(crate::proofs::Judged::judging), unfolding(crate::specs::File::length_right))]
 pub fn judge(file: &[u8], room: Lengths) -> Result<Header, Fault>
     ensures { outcome_in result ≡ outcome_of (listed room) file.now }
 {

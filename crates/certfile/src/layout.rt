@@ -20,6 +20,7 @@ fn optional_of(kind: u32) -> (bool, bool)
 }
 
 // The entries of each table: a file holds no choice list.
+#[tactic(auto, unfolding(crate::specs::File::announced, wire::specs::Blocks::block))]
 pub fn counts_of(h: Header) -> Lengths
     ensures counts { result ≡ counts_of h }
     ensures small { Small result }
@@ -42,6 +43,7 @@ pub fn counts_of(h: Header) -> Lengths
 }
 
 // The place of each table's first entry: for the choice list, the place where the file ends.
+#[tactic(auto, unfolding(crate::specs::Layout::table_place, wire::specs::Blocks::block))]
 pub fn places_of(h: Header) -> Lengths
     ensures { result ≡ places_of h }
 {
@@ -69,6 +71,7 @@ pub fn places_of(h: Header) -> Lengths
 }
 
 // The bytes of a whole file.
+#[tactic(auto, using(crate::proofs::Placed::ends))]
 pub fn length_of(h: Header) -> usize
     ensures { result ≡ size (blocks h) }
 {
@@ -76,6 +79,7 @@ pub fn length_of(h: Header) -> usize
 }
 
 // What the header of a file says.
+#[tactic(auto, unfolding(crate::specs::File::header_of, wire::specs::Blocks::size))]
 pub fn header_of(file: &[u8]) -> Header
     requires { size header_blocks ≤ length file.now }
     ensures { result ≡ header_of file.now }
