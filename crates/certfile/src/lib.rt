@@ -5,11 +5,11 @@ mod judge;
 mod layout;
 mod lent;
 
-ghost use Rattle.std.specs.Prelude.{◌≡◌};
+ghost use Rattle.std.specs.Prelude.{◌≡◌, IfOk};
 ghost use Rattle.certfile.specs.File.{outcome_of};
 ghost use Rattle.certfile.specs.Layout.{listed};
 ghost use Rattle.certfile.specs.Outcome.{outcome_in};
-ghost use Rattle.certfile.specs.Tables.{tables_in, ReadInto, SameTables};
+ghost use Rattle.certfile.specs.Tables.{lent as lent_in, tables_in, ReadInto, Roomy, SameTables};
 
 pub use layout::{counts_of, length_of};
 pub use lent::Lent;
@@ -60,6 +60,7 @@ pub fn preview(file: &[u8], room: Lengths) -> Result<Header, Fault>
 pub fn read(file: &[u8], lent: &mut Lent) -> Result<Header, Fault>
     ensures read { ReadInto (outcome_in result) file.now (tables_in lent.old) (tables_in lent.new) }
     ensures same { SameTables lent.old lent.new }
+    ensures roomy { IfOk result (λ h. Roomy h (lent_in (tables_in lent.new))) }
 {
     let h = judge::judge(file, lent.lengths())?;
     let count = layout::counts_of(h);

@@ -3,7 +3,7 @@
 use Rattle.std.proofs.Common.{rules, ◌≡◌}
 use Rattle.model.specs.Answers.{code}
 use Rattle.certfile.specs.Outcome.{Refused, outcome_in}
-use Rattle.certfile.proofs.Passed.{rooms, all_filled, untouched}
+use Rattle.certfile.proofs.Passed.{rooms, all_filled, roomy_read, untouched}
 use Rattle.certfile.proofs.read.Goals as goal
 
 pub returns-in_err-h-clause-read : goal.returns-in_err-h-clause-read
@@ -48,3 +48,6 @@ pub returns-clause-read : goal.returns-clause-read
 returns-clause-read c =
     all_filled _ _ _ _ _ _ c.places_of-place.ensures c.counts_of-count.ensures.counts c.lengths.ensures.listed c.in_ok-h.ensures _
     c.fill.ensures c.fill-2.ensures c.fill-3.ensures c.fill-4.ensures c.fill-5.ensures c.fill-6.ensures c.fill-7.ensures c.fill-8.ensures
+
+pub returns-clause-roomy : goal.returns-clause-roomy
+returns-clause-roomy c = roomy_read _ _ _ _ (returns-clause-read c)
