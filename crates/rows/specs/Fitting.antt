@@ -1,5 +1,5 @@
 -- What the row tests ask of the tables before they count: their lengths, and of the walk over rows that the starts are right.
-use Rattle.std.specs.Prelude.{ℕ, ◌+◌, ◌≤◌, ◌≡◌, length}
+use Rattle.std.specs.Prelude.{◌+◌, ◌≤◌, ◌≡◌, length}
 use Rattle.model.specs.Limits.{most_states, most_actions, most_branches}
 use Rattle.model.specs.Tables.{Model, states, branches}
 use Rattle.model.specs.WellFormed.{Starts}

@@ -30,6 +30,7 @@ fn start_ends(starts: &[u32], end: usize, i: usize) -> bool
 }
 
 // The first start is 0, any other is above the one before it, and the last is the end.
+#[tactic(auto, unfolding(model::specs::Refusals::start_right))]
 fn start_right(starts: &[u32], end: usize, i: usize) -> bool
     requires { i < length starts.now }
     ensures { result ≡ start_right starts.now end i }
@@ -81,6 +82,7 @@ fn walk_test(t: &Model) -> Result<(), Fault>
 }
 
 // Refusals 6 to 11, in number order; accepted where none stands.
+#[tactic(auto, using(model::proofs::Searched::in_order), unfolding(model::specs::Refusals::row_tests))]
 pub fn count(t: &Model) -> Result<(), Fault>
     requires { Fitting (model_in t.now) }
     ensures { tested result ≡ tried (row_tests (model_in t.now)) pass }

@@ -1,14 +1,17 @@
--- `rows::marks_test` meets its contract: each mark below s is 0 or 1. Assumes nothing.
-use native.Mathlib.Omega.{arith}
-use borrow.Author.Tests.{le-leb}
+-- `rows::marks_test` meets its contract: the first mark above 1 was sought. Assumes nothing.
+use Rattle.std.proofs.Common.{rules, tests, ap, ◌∙◌}
+use lib.Dec.{ltb, leb}
+use Rattle.std.proofs.lemmas.Iterator.{YieldsList-from_slice}
+use Rattle.std.proofs.lemmas.Iterator.Search.{position_from_yields_List}
+use Rattle.model.specs.Answers.{found}
 use Rattle.model.specs.Refusals.{marks_test}
-use Rattle.model.proofs.Tried.{through_pass, through_end}
+use Rattle.model.proofs.Searched.{found_throughout, above}
 use Rattle.rows.proofs.marks_test.Goals as goal
-
-pub loop-s-preserved : goal.loop-s-preserved
-loop-s-preserved c =
-    through_pass c.loop-s.invariant (omega arith) (le-leb _ _ (omega arith))
 
 pub returns : goal.returns
 unfolding marks_test
-returns c = through_end c.loop-s.invariant 8 (omega arith)
+returns c =
+    let xs = c.args.marks.now in
+    c.where_found.ensures
+    ∙ ap (found 8) (position_from_yields_List (ltb 1) _ _ _ c.position.ensures.ran (YieldsList-from_slice xs cc) (λ x b q k. search (rules, tests)))
+    ∙ found_throughout (ltb 1) (λ x. leb x 1) (above 1) xs 8

@@ -1,21 +1,23 @@
--- `rows::starts_test` meets its contract: each start below i is right. Assumes nothing.
-use mathlib.Core.Path.{sym, ◌∙◌}
-use native.Mathlib.Omega.{arith}
-use Rattle.model.specs.Refusals.{starts_test}
-use Rattle.model.proofs.Tried.{through_pass, through_stop, through_end}
+-- `rows::starts_test` meets its contract: the first start that is not right was sought. Assumes nothing.
+use Rattle.std.proofs.Common.{rules, tests, ◌≡◌, true, false, ◌∙◌, length}
+use Rattle.std.proofs.lemmas.Iterator.{first_from_Range}
+use Rattle.model.specs.Answers.{code}
+use Rattle.model.specs.Refusals.{start_right, starts_test}
+use Rattle.model.proofs.Searched.{found_sought, sought_below}
 use Rattle.rows.proofs.starts_test.Goals as goal
 
-pub returns-then-not-start_right : goal.returns-then-not-start_right
-unfolding starts_test
-returns-then-not-start_right c =
-    through_stop c.loop-i.invariant c.args.number (omega arith)
-    (sym c.start_right.ensures ∙ c.if-not-start_right.true)
-
-pub loop-i-preserved : goal.loop-i-preserved
-loop-i-preserved c =
-    through_pass c.loop-i.invariant (omega arith)
-    (sym c.start_right.ensures ∙ c.if-not-start_right.false)
+pub where_found-requires : goal.where_found-requires
+where_found-requires c =
+    let right = start_right c.args.starts.now c.args.end in
+    sought_below right (length c.args.starts.now) _ c.requires c.find.result
+    (first_from_Range _ _ _ c.find.result (λ i. right i ≡ false) (λ i. right i ≡ true) c.find.ensures.ran
+    (λ x q k. search (rules, tests)) (λ x q k. search (rules, tests)))
 
 pub returns : goal.returns
 unfolding starts_test
-returns c = through_end c.loop-i.invariant c.args.number (omega arith)
+returns c =
+    let right = start_right c.args.starts.now c.args.end in
+    c.where_found.ensures
+    ∙ found_sought right (length c.args.starts.now) (code c.args.refusal) c.find.result
+    (first_from_Range _ _ _ c.find.result (λ i. right i ≡ false) (λ i. right i ≡ true) c.find.ensures.ran
+    (λ x q k. search (rules, tests)) (λ x q k. search (rules, tests)))
