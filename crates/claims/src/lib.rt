@@ -52,6 +52,7 @@ fn greatest_claim(kind: Kind, c: u32) -> u64
 }
 
 // Refusals 12 to 14 over n states, in number order; accepted where none stands.
+#[tactic(auto, using(model::proofs::Searched::in_order), unfolding(model::specs::Refusals::ranges_of))]
 pub fn ranges(kind: Kind, n: usize, u: &Claim) -> Result<(), Fault>
     requires costs_len_bound { length u.now.costs.now < 2 ^ 32 }
     requires claims_len_bound { length u.now.claims.now < 2 ^ 32 }

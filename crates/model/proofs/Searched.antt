@@ -5,18 +5,18 @@ use mathlib.Core.Bool.{Bool, true, false, not}
 use mathlib.Core.List.{List, [], ◌∷◌}
 use mathlib.Core.Logic.{⊎_elim}
 use Prim.Native.Nat.{ℕ, ◌≤◌, ◌<◌, zero-le}
+use native.Mathlib.Nat.{le_of_lt}
+use native.Mathlib.Omega.{arith}
 use lib.Dec.{T, ltb, leb}
 use lib.ListN.{length, get_or}
 use borrow.Author.Tests.{lt-ltb, le-ltb, lt-leb, le-leb}
 use Rattle.std.specs.Prelude.{Result, Ok, Err, Option, Some, None}
 use Rattle.std.specs.List.{position, position_or_len}
+use Rattle.std.specs.Option.{MatchOption, IfSome}
 use Rattle.std.proofs.lemmas.List.Sums.{fails_before_first, passes_at_first, prefix_len-le-length}
 use Rattle.walk.specs.Fold.{first, any}
 use Rattle.walk.proofs.Bools.{holds}
 use Rattle.walk.proofs.Fold.{at_end, lowest_is, Lowest}
-use Rattle.std.specs.Option.{MatchOption, IfSome}
-use native.Mathlib.Omega.{arith}
-use native.Mathlib.Nat.{le_of_lt}
 use Rattle.model.specs.declared.answers.Fault.{Fault}
 use Rattle.model.specs.declared.answers.Verdict.{Verdict}
 use Rattle.model.specs.Answers.{pass, given, tested, tried, require, found, throughout}
@@ -37,7 +37,8 @@ module _ (wrong right : ℕ → Bool) (same : (x : ℕ) → wrong x ≡ not (rig
   unfolding throughout any require found
   found_throughout k = rw first_wrong (by (ltb (position_or_len wrong xs) (length xs)) refl)
     where
-      by : (b : Bool) → ltb (position_or_len wrong xs) (length xs) ≡ b → found k (position wrong xs) ≡ require (not (ltb (position_or_len wrong xs) (length xs))) k (position_or_len wrong xs)
+      by : (b : Bool) → ltb (position_or_len wrong xs) (length xs) ≡ b
+          → found k (position wrong xs) ≡ require (not (ltb (position_or_len wrong xs) (length xs))) k (position_or_len wrong xs)
       by true e = rw e
       by false e = rw e
 
@@ -67,6 +68,9 @@ tried_word {A} r x e = settled x (by r e)
     by : (q : Result A Fault) → tested q ≡ x → T (accepts x) → x ≡ pass
     by (Ok a) o h = sym o
     by (Err f) o h = absurd (rw (← o) at h)
+
+-- what `?` on tests in order takes, in one name
+pub ruleset in_order = (tried_ok, tried_err, tried_word)
 
 -- what a search of the range below n comes to: nothing is wrong, or the first that is wrong
 module _ (right : ℕ → Bool) (n : ℕ) where

@@ -46,7 +46,8 @@ module _ {t : Model} {a total j : ℕ} (w : Counting t a total j) (h : j < first
     unfolding branch_test
     stop_ten f e = stop f (tried_err f e [] pass ∙ sym (tried_ok nine (require (between 1 (scale t a) (weight t j)) 10 j ∷ []) pass))
 
-    pub count_pass : pass ≡ require (between 1 (scale t a) (weight t j)) 10 j → weight t j ≤ 4294967295 → Counting t a (total + weight t j) (j + 1)
+    pub count_pass : pass ≡ require (between 1 (scale t a) (weight t j)) 10 j → weight t j ≤ 4294967295
+        → Counting t a (total + weight t j) (j + 1)
     unfolding branch_test tried
     count_pass ten f =
         record {
@@ -56,6 +57,7 @@ module _ {t : Model} {a total j : ℕ} (w : Counting t a total j) (h : j < first
           small = omega (arith, w.small);
         }
 
-pub count_end : {t : Model} {a total j : ℕ} → Counting t a total j → first_branch t (a + 1) ≤ j → require (eqb total (scale t a)) 11 a ≡ action_test t a
+pub count_end : {t : Model} {a total j : ℕ} → Counting t a total j → first_branch t (a + 1) ≤ j
+    → require (eqb total (scale t a)) 11 a ≡ action_test t a
 unfolding total_test
 count_end {t} {a} w h = ap (λ (x : ℕ). require (eqb x (scale t a)) 11 a) (sum_ends w.summing h) ∙ try_end w.trying h

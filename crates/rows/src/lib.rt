@@ -82,6 +82,7 @@ fn walk_test(t: &Model) -> Result<(), Fault>
 }
 
 // Refusals 6 to 11, in number order; accepted where none stands.
+#[tactic(auto, using(model::proofs::Searched::in_order), unfolding(model::specs::Refusals::row_tests))]
 pub fn count(t: &Model) -> Result<(), Fault>
     requires { Fitting (model_in t.now) }
     ensures { tested result ≡ tried (row_tests (model_in t.now)) pass }

@@ -13,5 +13,6 @@ unfolding claims_test
 returns c =
     let xs = c.args.claims.now in
     c.where_found.ensures
-    ∙ ap (found 13) (position_from_yields_List (ltb c.args.limit) _ _ _ c.position.ensures.ran (YieldsList-from_slice xs cc) (λ x b q k. search (rules, tests)))
+    ∙ ap (found 13) (position_from_yields_List (ltb c.args.limit) _ _ _ c.position.ensures.ran (YieldsList-from_slice xs cc)
+    (λ x b q k. search (rules, tests)))
     ∙ found_throughout (ltb c.args.limit) (λ x. leb x c.args.limit) (above c.args.limit) xs 13

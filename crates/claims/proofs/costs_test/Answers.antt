@@ -14,5 +14,6 @@ unfolding costs_test
 returns c =
     let xs = c.args.costs.now in
     c.where_found.ensures
-    ∙ ap (found 12) (position_from_yields_List (ltb most_cost) _ _ _ c.position.ensures.ran (YieldsList-from_slice xs cc) (λ x b q k. search (rules, tests)))
+    ∙ ap (found 12) (position_from_yields_List (ltb most_cost) _ _ _ c.position.ensures.ran (YieldsList-from_slice xs cc)
+    (λ x b q k. search (rules, tests)))
     ∙ found_throughout (ltb most_cost) (λ x. leb x most_cost) (above most_cost) xs 12

@@ -12,8 +12,8 @@ use Rattle.claims.proofs.greatest_rank.Goals as goal
 pub returns : goal.returns
 returns c =
     let m : c.max.result ≡ reduce max (filter is_rank c.args.ranks.now) =
-        sym (option_map_id _)
-        ∙ max_from_yields_List _ _ c.max.ensures.ran
-        (YieldsList-from_filter _ is_rank (YieldsList-at c.filter.ensures.source (YieldsList-from_copied (YieldsList-from_slice c.args.ranks.now cc)))
-        c.filter.ensures.closure (λ x r q k. search (rules, tests)))
+    sym (option_map_id _)
+    ∙ max_from_yields_List _ _ c.max.ensures.ran
+    (YieldsList-from_filter _ is_rank (YieldsList-at c.filter.ensures.source (YieldsList-from_copied (YieldsList-from_slice c.args.ranks.now cc)))
+    c.filter.ensures.closure (λ x r q k. search (rules, tests)))
     in c.unwrap_or.ensures ∙ ap (λ r. unwrap_or r 0) m ∙ greatest_of c.args.ranks.now

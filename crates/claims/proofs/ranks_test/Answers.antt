@@ -13,5 +13,6 @@ unfolding ranks_test
 returns c =
     let xs = c.args.ranks.now in
     c.where_found.ensures
-    ∙ ap (found 14) (position_from_yields_List (λ x. not (rank_right c.args.n x)) _ _ _ c.position.ensures.ran (YieldsList-from_slice xs cc) (λ x b q k. search (rules, tests)))
+    ∙ ap (found 14) (position_from_yields_List (λ x. not (rank_right c.args.n x)) _ _ _ c.position.ensures.ran (YieldsList-from_slice xs cc)
+    (λ x b q k. search (rules, tests)))
     ∙ found_throughout (λ x. not (rank_right c.args.n x)) (rank_right c.args.n) (λ x. refl) xs 14
