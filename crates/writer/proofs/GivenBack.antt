@@ -19,15 +19,14 @@ use Rattle.wire.specs.Words.{word}
 use Rattle.wire.specs.Blocks.{Block, size, place, block, numbers, overwritten}
 use Rattle.wire.specs.Sections.{Section, written, blocks_of, section}
 use Rattle.wire.proofs.RoundTrip.{numbers_length, numbers_at, read_written}
-use Rattle.certfile.specs.declared.Outcome.{Outcome}
-use Rattle.certfile.specs.declared.Outcome.TheVariants.{Read}
+use Rattle.certfile.specs.Outcome.{Outcome, Read}
 use Rattle.certfile.specs.declared.Header.{Header}
 use Rattle.certfile.specs.File.{header_blocks, header_of, announced, blocks, roomy, outcome_of, table_of}
 use Rattle.certfile.specs.File.{length_field_right, version_right, counts_right, length_right}
 use Rattle.certfile.specs.Layout.{table_place}
 use Rattle.certfile.specs.Tables.{Tables, lent, ReadInto}
 use Rattle.certfile.proofs.Passed.{of_passed}
-use Rattle.writer.specs.declared.Written.TheVariants.{Length}
+use Rattle.writer.specs.Written.{Length}
 use Rattle.writer.specs.File.{header_for, sections, file_of, overlaid, buffer_of, WrittenInto}
 use Rattle.writer.specs.RoundTrip.{Long, GivenBack}
 use Rattle.writer.proofs.Measured.{blocks_filled, file_length}

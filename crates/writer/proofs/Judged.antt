@@ -5,14 +5,18 @@ use mathlib.Core.List.{List, [], ◌∷◌}
 use Prim.Native.Nat.{ℕ, ◌≤◌, ◌<◌, ◌^◌}
 use native.Mathlib.Omega.{arith}
 use lib.Dec.{T, leb}
-use lib.ListN.{length}
+use lib.ListN.{length, get_or, get_or-eq_default}
+use mathlib.Core.Logic.{⊎_elim}
+use Rattle.walk.proofs.Fold.{at_end}
 use borrow.Author.Tests.{leb-true, le-leb, lt-leb}
 use Rattle.walk.proofs.Bools.{holds, is_true, and_right}
 use Rattle.model.specs.declared.answers.Verdict.{Verdict}
 use Rattle.model.specs.declared.answers.Verdict.TheVariants.{Accepted, Refused as Refuses, Violated}
 use Rattle.model.specs.Kinds.{is_kind, kind_of}
 use Rattle.model.specs.Tables.{Model, Claim, states}
-use Rattle.model.specs.Answers.{pass, then, tried, require}
+use Rattle.model.specs.Answers.{code, given, pass, then, tried, require}
+use Rattle.model.specs.declared.answers.Fault.{Fault}
+use Rattle.model.proofs.Searched.{err_stops}
 use Rattle.model.specs.Refusals.{choice_count, kind_test, tests}
 use Rattle.model.specs.Checked.{accepts, refusal_of, aside_of}
 use Rattle.model.specs.WellFormed.{WellFormed}
@@ -22,8 +26,7 @@ use Rattle.wire.specs.Blocks.{size}
 use Rattle.wire.specs.Sections.{written}
 use Rattle.certfile.specs.declared.Header.{Header}
 use Rattle.certfile.specs.File.{blocks}
-use Rattle.writer.specs.declared.Written.{Written}
-use Rattle.writer.specs.declared.Written.TheVariants.{Length, Refused}
+use Rattle.writer.specs.Written.{Written, Length, Refused}
 use Rattle.writer.specs.File.{header_for, sections, file_of, buffer_test, write_tests, answered, written_of, overlaid, buffer_of, WrittenInto}
 use Rattle.writer.specs.Room.{HeadRoom}
 use Rattle.writer.proofs.Measured.{file_length}
@@ -64,6 +67,12 @@ module _ (kind : ℕ) (t : Model) (u : Claim) where
       size_fits kind t u (choice_count kind (states t)) well_formed,
     )
 
+    -- a mark is a byte
+    pub marks_small : (i : ℕ) → get_or t.marks i 0 < 256
+    marks_small i =
+        ⊎_elim (λ l. rw (get_or-eq_default t.marks 0 {n = i} l) (omega arith)) (λ l. omega (arith, well_formed.counted.marks i l))
+        (at_end i (states t))
+
     -- and so its header can be made
     pub countable : (states t < 2 ^ 32) × ((1 ≤ length t.branch_starts) × ((length t.branch_starts ≤ 2 ^ 32) × (length t.destinations < 2 ^ 32)))
     countable =
@@ -98,22 +107,11 @@ module _ (kind : ℕ) (t : Model) (u : Claim) where
   stopped_same (Refuses k p) e m n = refl
   stopped_same (Violated k s a) e m n = refl
 
-  pub refused : (v : Verdict) → v ≡ aside_of kind t u → accepts (aside_of kind t u) ≡ false → (r : Written) → r ≡ answered 0 v → (buffer : ℕ)
-      → r ≡ written_of kind t u buffer
-  refused v e f r q buffer =
+  pub refused : (f : Fault) → given f ≡ aside_of kind t u → (buffer : ℕ) → Refused (code f.refusal) f.place ≡ written_of kind t u buffer
+  unfolding answered
+  refused f e buffer =
       let n = length (file_of kind t u) in
-      q
-      ∙ stopped_same v (ap accepts e ∙ f) 0 n
-      ∙ ap (answered n) (e ∙ sym (tried_stop (aside_of kind t u) (require (leb n buffer) 35 0 ∷ []) pass f))
-      ∙ sym (written_is buffer)
-
-  short_is : (n : ℕ) → answered n (tried (require false 35 0 ∷ []) pass) ≡ Refused 35 0
-  unfolding answered tried then require
-  short_is n = refl
-
-  long_is : (n : ℕ) → answered n (tried (require true 35 0 ∷ []) pass) ≡ Length n
-  unfolding answered tried then require
-  long_is n = refl
+      ap (answered n) (e ∙ sym (tried_stop (aside_of kind t u) (require (leb n buffer) 35 0 ∷ []) pass (err_stops f e))) ∙ sym (written_is buffer)
 
   module _ (p : T (accepts (aside_of kind t u))) (buffer : ℕ) where
     judged : (right : Bool) → leb (length (file_of kind t u)) buffer ≡ right
@@ -125,11 +123,22 @@ module _ (kind : ℕ) (t : Model) (u : Claim) where
         (tried_go (aside_of kind t u) (require (leb (length (file_of kind t u)) buffer) 35 0 ∷ []) pass p
         ∙ ap (λ (b : Bool). tried (require b 35 0 ∷ []) pass) e)
 
-    pub too_short : buffer < length (file_of kind t u) → Refused 35 0 ≡ written_of kind t u buffer
-    too_short l = let n = length (file_of kind t u) in sym (judged false (lt-leb n buffer l) ∙ short_is n)
+    -- 35 by the bytes that were counted, and then the length
+    module _ (bytes : ℕ) (q : bytes ≡ length (file_of kind t u)) where
+      by_length : require (leb bytes buffer) 35 0 ≡ require (leb (length (file_of kind t u)) buffer) 35 0
+      by_length = ap (λ (n : ℕ). require (leb n buffer) 35 0) q
 
-    pub long_enough : length (file_of kind t u) ≤ buffer → (bytes : ℕ) → bytes ≡ length (file_of kind t u) → Length bytes ≡ written_of kind t u buffer
-    long_enough l bytes e = let n = length (file_of kind t u) in ap Length e ∙ sym (judged true (le-leb n buffer l) ∙ long_is n)
+      pub too_short : (f : Fault) → given f ≡ require (leb bytes buffer) 35 0 → Refused (code f.refusal) f.place ≡ written_of kind t u buffer
+      unfolding answered tried then
+      too_short f e =
+          let n = length (file_of kind t u) in
+          ap (λ (v : Verdict). answered n (tried (v ∷ []) pass)) (e ∙ by_length) ∙ sym (judged (leb n buffer) refl)
+
+      pub long_enough : pass ≡ require (leb bytes buffer) 35 0 → Length bytes ≡ written_of kind t u buffer
+      unfolding answered tried then
+      long_enough e =
+          let n = length (file_of kind t u) in
+          ap Length q ∙ ap (λ (v : Verdict). answered n (tried (v ∷ []) pass)) (e ∙ by_length) ∙ sym (judged (leb n buffer) refl)
 
   -- a length is answered only where nothing refuses
   told : (v : Verdict) (right : Bool) (n bytes : ℕ) → answered n (tried (v ∷ require right 35 0 ∷ []) pass) ≡ Length bytes

@@ -18,7 +18,7 @@ use Rattle.wire.specs.Blocks.{block_of, size, place, block, numbers}
 use Rattle.wire.specs.Sections.{section_of, section, sections_in, written}
 use Rattle.wire.proofs.RoundTrip.{numbers_length, section_in, written_read}
 use Rattle.certfile.specs.declared.Header.{Header}
-use Rattle.certfile.specs.declared.Outcome.TheVariants.{Read}
+use Rattle.certfile.specs.Outcome.{Read}
 use Rattle.certfile.specs.File.{header_blocks, header_of, announced, blocks, length_field_right, version_right, length_right}
 use Rattle.certfile.specs.Layout.{table_place}
 use Rattle.certfile.specs.Tables.{Tables, lent, ReadInto}
@@ -26,8 +26,8 @@ use Rattle.certfile.specs.Contents.{table_in, model_in, claim_in, model_cut, cla
 use Rattle.certfile.proofs.Judged.{both_true}
 use Rattle.certfile.proofs.Passed.{Passed, passed}
 use Rattle.certfile.proofs.Contents.{model_read, claim_read}
-use Rattle.writer.specs.declared.Written.{Written}
-use Rattle.writer.specs.declared.Written.TheVariants.{Length}
+use Rattle.writer.specs.Written.{Written}
+use Rattle.writer.specs.Written.{Length}
 use Rattle.writer.specs.File.{header_for, sections, file_of, buffer_test, answered, written_of, overlaid, buffer_of, WrittenInto}
 
 -- what the tests of the reader say of a file

@@ -3,7 +3,7 @@
 
 ghost use Rattle.std.specs.Prelude.{◌≡◌, ◌≤◌, ◌<◌, ◌^◌, length};
 ghost use Rattle.walk.specs.Put.{Put};
-ghost use Rattle.model.specs.Tables.{model_in, claim_in};
+ghost use Rattle.model.specs.Tables.{model_in, claim_in, states, branches};
 ghost use Rattle.wire.specs.Sections.{sections_of, written};
 ghost use Rattle.certfile.specs.File.{header_blocks};
 ghost use Rattle.writer.specs.File.{header_for, heads, written_of, WrittenInto};
@@ -16,9 +16,8 @@ use wire::{Width, Word};
 
 // What a file says before its tables.
 fn header(kind: u32, t: &Model, u: &Claim) -> Header
-    requires states { length t.now.marks.now < 2 ^ 32 }
-    requires actions { (1 ≤ length t.now.branch_starts.now) × (length t.now.branch_starts.now ≤ 2 ^ 32) }
-    requires branches { length t.now.destinations.now < 2 ^ 32 }
+    requires { let x = model_in t.now in
+        (states x < 2 ^ 32) × ((1 ≤ length x.branch_starts) × ((length x.branch_starts ≤ 2 ^ 32) × (branches x < 2 ^ 32))) }
     ensures { result ≡ header_for kind (model_in t.now) (claim_in u.now) }
 {
     Header {
