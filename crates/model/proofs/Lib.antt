@@ -10,3 +10,4 @@ pub mod Chosen
 pub mod Named
 pub mod Tied
 pub mod KnownKinds
+pub mod Searched

@@ -1,19 +1,17 @@
--- `claims::claims_test` meets its contract: each claim below s is in range. Assumes nothing.
-use native.Mathlib.Omega.{arith}
-use borrow.Author.Tests.{le-leb, lt-leb}
+-- `claims::claims_test` meets its contract: the first claim that is above its limit was sought. Assumes nothing.
+use Rattle.std.proofs.Common.{rules, tests, ap, ◌∙◌}
+use lib.Dec.{ltb, leb}
+use Rattle.std.proofs.lemmas.Iterator.{YieldsList-from_slice}
+use Rattle.std.proofs.lemmas.Iterator.Search.{position_from_yields_List}
+use Rattle.model.specs.Answers.{found}
 use Rattle.model.specs.Refusals.{claims_test}
-use Rattle.model.proofs.Tried.{through_pass, through_stop, through_end}
+use Rattle.model.proofs.Searched.{found_throughout, above}
 use Rattle.claims.proofs.claims_test.Goals as goal
-
-pub returns-then-limit-claims : goal.returns-then-limit-claims
-unfolding claims_test
-returns-then-limit-claims c =
-    through_stop c.loop-s.invariant 13 (omega arith) (lt-leb _ _ c.if-limit-claims.true)
-
-pub loop-s-preserved : goal.loop-s-preserved
-loop-s-preserved c =
-    through_pass c.loop-s.invariant (omega arith) (le-leb _ _ c.if-limit-claims.false)
 
 pub returns : goal.returns
 unfolding claims_test
-returns c = through_end c.loop-s.invariant 13 (omega arith)
+returns c =
+    let xs = c.args.claims.now in
+    c.where_found.ensures
+    ∙ ap (found 13) (position_from_yields_List (ltb c.args.limit) _ _ _ c.position.ensures.ran (YieldsList-from_slice xs cc) (λ x b q k. search (rules, tests)))
+    ∙ found_throughout (ltb c.args.limit) (λ x. leb x c.args.limit) (above c.args.limit) xs 13

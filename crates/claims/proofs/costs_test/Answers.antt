@@ -1,19 +1,18 @@
--- `claims::costs_test` meets its contract: each cost below s is in range. Assumes nothing.
-use native.Mathlib.Omega.{arith}
-use borrow.Author.Tests.{le-leb, lt-leb}
+-- `claims::costs_test` meets its contract: the first cost that is above its limit was sought. Assumes nothing.
+use Rattle.std.proofs.Common.{rules, tests, ap, ◌∙◌}
+use lib.Dec.{ltb, leb}
+use Rattle.std.proofs.lemmas.Iterator.{YieldsList-from_slice}
+use Rattle.std.proofs.lemmas.Iterator.Search.{position_from_yields_List}
+use Rattle.model.specs.Limits.{most_cost}
+use Rattle.model.specs.Answers.{found}
 use Rattle.model.specs.Refusals.{costs_test}
-use Rattle.model.proofs.Tried.{through_pass, through_stop, through_end}
+use Rattle.model.proofs.Searched.{found_throughout, above}
 use Rattle.claims.proofs.costs_test.Goals as goal
-
-pub returns-then-costs-s-gt-MOST : goal.returns-then-costs-s-gt-MOST
-unfolding costs_test
-returns-then-costs-s-gt-MOST c =
-    through_stop c.loop-s.invariant 12 (omega arith) (lt-leb _ _ c.if-costs-s-gt-MOST.true)
-
-pub loop-s-preserved : goal.loop-s-preserved
-loop-s-preserved c =
-    through_pass c.loop-s.invariant (omega arith) (le-leb _ _ c.if-costs-s-gt-MOST.false)
 
 pub returns : goal.returns
 unfolding costs_test
-returns c = through_end c.loop-s.invariant 12 (omega arith)
+returns c =
+    let xs = c.args.costs.now in
+    c.where_found.ensures
+    ∙ ap (found 12) (position_from_yields_List (ltb most_cost) _ _ _ c.position.ensures.ran (YieldsList-from_slice xs cc) (λ x b q k. search (rules, tests)))
+    ∙ found_throughout (ltb most_cost) (λ x. leb x most_cost) (above most_cost) xs 12

@@ -1,16 +1,19 @@
--- `claims::greatest_rank` meets its contract: greatest is the greatest rank below s that is not none. Assumes nothing.
-use Prim.Native.Nat.{zero-le}
-use lib.ListN.{length, get_or}
-use Rattle.walk.proofs.Loop.{rise_start, rise_pass, rise_end}
-use Rattle.model.specs.Checked.{rank_or_zero, greatest_rank}
+-- `claims::greatest_rank` meets its contract: the greatest of the ranks that are not none. Assumes nothing.
+use Rattle.std.proofs.Common.{rules, tests, ◌≡◌, ap, sym, ◌∙◌, max}
+use Rattle.std.specs.List.{filter, reduce}
+use Rattle.std.specs.Option.{unwrap_or}
+use Rattle.std.proofs.lemmas.Iterator.{YieldsList-from_slice}
+use Rattle.std.proofs.lemmas.Iterator.Adapters.{option_map_id}
+use Rattle.std.proofs.lemmas.Iterator.Consumers.{YieldsList-at, YieldsList-from_filter, YieldsList-from_copied, max_from_yields_List}
+use Rattle.model.specs.Tables.{is_rank}
+use Rattle.claims.proofs.Ranks.{greatest_of}
 use Rattle.claims.proofs.greatest_rank.Goals as goal
 
-pub loop-s-init : goal.loop-s-init
-unfolding greatest_rank
-loop-s-init c = rise_start (λ j. rank_or_zero (get_or c.args.ranks.now j 0)) 0 (length c.args.ranks.now) zero-le
-
-pub loop-s-preserved : goal.loop-s-preserved
-loop-s-preserved c = rise_pass c.loop-s.invariant c.loop-s-test.true c.greater-greatest.result c.greater-greatest.ensures
-
 pub returns : goal.returns
-returns c = rise_end c.loop-s.invariant c.loop-s-test.false
+returns c =
+    let m : c.max.result ≡ reduce max (filter is_rank c.args.ranks.now) =
+        sym (option_map_id _)
+        ∙ max_from_yields_List _ _ c.max.ensures.ran
+        (YieldsList-from_filter _ is_rank (YieldsList-at c.filter.ensures.source (YieldsList-from_copied (YieldsList-from_slice c.args.ranks.now cc)))
+        c.filter.ensures.closure (λ x r q k. search (rules, tests)))
+    in c.unwrap_or.ensures ∙ ap (λ r. unwrap_or r 0) m ∙ greatest_of c.args.ranks.now

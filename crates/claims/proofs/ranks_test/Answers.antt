@@ -1,21 +1,17 @@
--- `claims::ranks_test` meets its contract: each rank below s is right. Assumes nothing.
-use mathlib.Core.Path.{sym, ◌∙◌}
-use native.Mathlib.Omega.{arith}
-use Rattle.model.specs.Refusals.{ranks_test}
-use Rattle.model.proofs.Tried.{through_pass, through_stop, through_end}
+-- `claims::ranks_test` meets its contract: the first rank that is not right was sought. Assumes nothing.
+use Rattle.std.proofs.Common.{rules, tests, refl, ap, ◌∙◌}
+use mathlib.Core.Bool.{not}
+use Rattle.std.proofs.lemmas.Iterator.{YieldsList-from_slice}
+use Rattle.std.proofs.lemmas.Iterator.Search.{position_from_yields_List}
+use Rattle.model.specs.Answers.{found}
+use Rattle.model.specs.Refusals.{rank_right, ranks_test}
+use Rattle.model.proofs.Searched.{found_throughout}
 use Rattle.claims.proofs.ranks_test.Goals as goal
-
-pub returns-then-not-rank_right : goal.returns-then-not-rank_right
-unfolding ranks_test
-returns-then-not-rank_right c =
-    through_stop c.loop-s.invariant 14 (omega arith)
-    (sym c.rank_right.ensures ∙ c.if-not-rank_right.true)
-
-pub loop-s-preserved : goal.loop-s-preserved
-loop-s-preserved c =
-    through_pass c.loop-s.invariant (omega arith)
-    (sym c.rank_right.ensures ∙ c.if-not-rank_right.false)
 
 pub returns : goal.returns
 unfolding ranks_test
-returns c = through_end c.loop-s.invariant 14 (omega arith)
+returns c =
+    let xs = c.args.ranks.now in
+    c.where_found.ensures
+    ∙ ap (found 14) (position_from_yields_List (λ x. not (rank_right c.args.n x)) _ _ _ c.position.ensures.ran (YieldsList-from_slice xs cc) (λ x b q k. search (rules, tests)))
+    ∙ found_throughout (λ x. not (rank_right c.args.n x)) (rank_right c.args.n) (λ x. refl) xs 14
