@@ -22,7 +22,8 @@ use Rattle.actions.specs.declared.State.{State}
 use Rattle.actions.specs.Judging.{rows_in, state_of, suits_over, kept, suits_in, falls_in, lowest_of}
 use Rattle.actions.specs.Ready.{Weighable, Walkable}
 use Rattle.conditions.specs.Ready.{Ready}
-use Rattle.conditions.specs.declared.Judged.{Judged}
+use Rattle.std.specs.declared.result.Result.{Result}
+use Rattle.model.specs.declared.answers.Violation.{Violation}
 use Rattle.conditions.specs.Judging.{Judges, verdict23, target_verdict, open_verdict, open_choice, state_verdict, state_choice, picked}
 use Rattle.conditions.proofs.State.{beq_true, unasked}
 
@@ -143,6 +144,6 @@ module _ (k : Kind) (t : Model) (u : Claim) (s c r : ℕ) (p : c ≡ cost u s) (
   pub read_walkable : Ready k t u → s < states t → Walkable k (read t u s c r) (rows_in t u)
   read_walkable w l = rw (p, q) (walkable w s l)
 
-  pub read_judged : (j : Judged) → Judges (state_verdict k u.c (read t u s c r) (rows_in t u)) (state_choice k (read t u s c r) (rows_in t u)) j
+  pub read_judged : {j : Result ℕ Violation} → Judges (state_verdict k u.c (read t u s c r) (rows_in t u)) (state_choice k (read t u s c r) (rows_in t u)) j
       → Judges (judged k t u s) (picked k t u s) j
-  read_judged j h = rw (judged_is k t u s, picked_is k t u s, ← p, ← q) h
+  read_judged h = rw (judged_is k t u s, picked_is k t u s, ← p, ← q) h

@@ -3,6 +3,8 @@ use mathlib.Core.Path.{◌≡◌, refl, sym, ap, subst, fun_ext, ◌∙◌}
 use mathlib.Core.Bool.{Bool, true, false, beq, cond, not, ◌&&◌, ◌||◌}
 use Prim.Native.Nat.{ℕ, ◌≤◌, ◌<◌}
 use lib.Dec.{T, ltb, eqb}
+use Rattle.std.specs.Prelude.{Option, Some, None, Ok, Err}
+use Rattle.std.specs.Option as option
 use Rattle.walk.specs.Fold.{any, all, first}
 use Rattle.walk.proofs.Bools.{holds, is_true, and_left, and_right}
 use Rattle.walk.proofs.Fold.{first_same}
@@ -11,11 +13,15 @@ use Rattle.model.specs.declared.kinds.Kind.{Kind}
 use Rattle.model.specs.Limits.{none}
 use Rattle.model.specs.Kinds.{is_at_least, is_some}
 use Rattle.model.specs.Tables.{is_rank}
+use Rattle.model.specs.declared.answers.Verdict.{Verdict}
+use Rattle.model.specs.declared.answers.Verdict.TheVariants.{Violated}
+use Rattle.model.specs.declared.answers.Violation.{Violation}
 use Rattle.model.specs.Answers.{pass, then, tried}
+use Rattle.model.specs.Answers as answers
 use Rattle.model.specs.Conditions.{ask, ask_over, target_asks, rank_asks, fall_asked}
 use Rattle.actions.specs.declared.State.{State}
-use Rattle.actions.specs.Judging.{Rows, kept, suits_in, falls_in, lowest_of}
-use Rattle.conditions.specs.Judging.{verdict23, target_verdict, open_verdict, open_choice}
+use Rattle.actions.specs.Judging.{Rows, kept, suits_in, falls_in, lowest_of, below}
+use Rattle.conditions.specs.Judging.{Judges, verdict23, target_verdict, open_verdict, open_choice}
 
 pub beq_true : (b : Bool) → beq b true ≡ b
 beq_true true = refl
@@ -24,6 +30,18 @@ beq_true false = refl
 beq_false : (b : Bool) → beq b false ≡ not b
 beq_false true = refl
 beq_false false = refl
+
+alike : (b w : Bool) → beq b w ≡ true → b ≡ w
+alike true true h = refl
+alike true false h = (cc)
+alike false true h = (cc)
+alike false false h = refl
+
+unlike : (b w : Bool) → beq b w ≡ false → b ≡ not w
+unlike true true h = (cc)
+unlike true false h = refl
+unlike false true h = refl
+unlike false false h = (cc)
 
 pub unasked : (b f : Bool) → kept false b f ≡ b
 unasked true f = refl
@@ -90,14 +108,37 @@ pub fall_least : (k : Kind) (rank : ℕ) → fall_asked k rank ≡ true → is_a
 unfolding fall_asked
 fall_least k rank e = is_true (is_at_least k.bound) (and_left (is_at_least k.bound) (is_rank rank) (holds e))
 
-module _ (k : Kind) (c : ℕ) (x : State) where
-  pub target_met : target_asks k c x.cost x.claim ≡ true → target_verdict k c x ≡ verdict23 k x
-  unfolding target_verdict tried ask then verdict23
-  target_met e = rw e (word (rank_asks k x.claim x.rank) 23 x.place)
+-- where nothing breaks there is a choice, and where a condition breaks there is none
+pub judged_ok : {v : Verdict} {a x : ℕ} → pass ≡ v → x ≡ a → Judges v a (Ok x)
+judged_ok e f = record { verdict = e; choice = λ y q. (cc) }
 
-  pub target_broken : target_asks k c x.cost x.claim ≡ false → target_verdict k c x ≡ ask false 21 x.place none
-  unfolding target_verdict tried ask then
-  target_broken e = rw e
+pub judged_err : {v : Verdict} {a : ℕ} (z : Violation) → answers.broken z ≡ v → Judges v a (Err z)
+judged_err z e = record { verdict = e; choice = λ y q. (cc) }
+
+-- a target, by the test of 21
+module _ (k : Kind) (c : ℕ) (x : State) {met : Bool} (a : met ≡ target_asks k c x.cost x.claim) where
+  pub target_met : pass ≡ ask met 21 x.place none → target_verdict k c x ≡ verdict23 k x
+  unfolding target_verdict tried then verdict23
+  target_met e = rw (← a, ← e) (word (rank_asks k x.claim x.rank) 23 x.place)
+
+  pub target_broken : (z : Violation) → answers.broken z ≡ ask met 21 x.place none → answers.broken z ≡ target_verdict k c x
+  unfolding target_verdict tried then
+  target_broken z e = rw (← a, ← e)
+
+-- an action that is sought is found where it is below the end
+is_below : (a end : ℕ) → option.is_some (below a end) ≡ ltb a end
+is_below a end = by (ltb a end)
+  where
+    by : (b : Bool) → option.is_some (cond b (Some a) None) ≡ b
+    by true = refl
+    by false = refl
+
+taken_below : (a end d : ℕ) → option.unwrap_or (below a end) d ≡ cond (ltb a end) a d
+taken_below a end d = by (ltb a end)
+  where
+    by : (b : Bool) → option.unwrap_or (cond b (Some a) None) d ≡ cond b a d
+    by true = refl
+    by false = refl
 
 -- a non-target, by the two searches
 module _ (k : Kind) (x : State) (y : Rows) (some : Bool) (who : some ≡ is_some k.who) where
@@ -149,37 +190,47 @@ module _ (k : Kind) (x : State) (y : Rows) (some : Bool) (who : some ≡ is_some
   passed24 true f h = rw (← f) (asks24 (suits_too true h) ∙ rw (is_true (of (does true)) h))
   passed24 false f h = rw (← f)
 
-  -- the code's search, and whether it says that what is asked is met
-  module _ (asked : Bool) (a : ℕ) (e : a ≡ lowest_of k some asked x y) where
-    found : beq (ltb a x.end) some ≡ of (does asked)
-    unfolding lowest_of
-    found = rw e (stop_among some x.first x.end (does asked))
+  -- the code's search: whether it finds an action, and whether that says that what is asked is met
+  module _ (asked : Bool) {r : Option ℕ} (e : r ≡ below (lowest_of k some asked x y) x.end) {s : Bool} (g : s ≡ option.is_some r) where
+    hit : s ≡ ltb (lowest_of k some asked x y) x.end
+    hit = rw (g, e) (is_below (lowest_of k some asked x y) x.end)
 
-    module _ (f : asked ≡ fall_asked k x.rank) where
-      pub open_met : beq (ltb a x.end) some ≡ true → open_verdict k x y ≡ verdict23 k x
+    taken : option.unwrap_or r none ≡ cond s (lowest_of k some asked x y) none
+    taken = rw (hit, e) (taken_below (lowest_of k some asked x y) x.end none)
+
+    sought : beq s some ≡ of (does asked)
+    unfolding lowest_of
+    sought = rw hit (stop_among some x.first x.end (does asked))
+
+    stops_at : beq s some ≡ false → option.unwrap_or r none ≡ name (does asked)
+    unfolding lowest_of
+    stops_at m = taken ∙ rw (unlike s some m)
+
+    module _ (f : asked ≡ fall_asked k x.rank) (m : beq s some ≡ true) where
+      pub open_met : open_verdict k x y ≡ verdict23 k x
       unfolding ask then
-      open_met m =
-          let h : T (of (does asked)) = holds (sym found ∙ m) in
+      open_met =
+          let h : T (of (does asked)) = holds (sym sought ∙ m) in
           first_is ∙ rw (is_true (of (does false)) (suits_too asked h), passed24 asked f h) word23
 
-      pub open_picked : cond some a none ≡ open_choice k x y
+      pub open_picked : option.unwrap_or r none ≡ open_choice k x y
       unfolding open_choice
-      open_picked = rw (e, f, ← who) (by some)
+      open_picked = taken ∙ rw (alike s some m, f, ← who) (by some)
         where
           by : (w : Bool) → cond w (lowest_of k w (fall_asked k x.rank) x y) none ≡ cond w (lowest_of k true (fall_asked k x.rank) x y) none
           by true = refl
           by false = refl
 
-  pub open_unsuited : (b : ℕ) → b ≡ lowest_of k some false x y → beq (ltb b x.end) some ≡ false
-      → open_verdict k x y ≡ ask false 22 x.place (cond (not some) b none)
-  unfolding lowest_of ask then
-  open_unsuited b e m = first_is ∙ rw (sym (found false b e) ∙ m, ← e)
+  module _ {r : Option ℕ} (e : r ≡ below (lowest_of k some false x y) x.end) {s : Bool} (g : s ≡ option.is_some r) where
+    pub open_unsuited : beq s some ≡ false → Violated 22 x.place (option.unwrap_or r none) ≡ open_verdict k x y
+    unfolding ask then
+    open_unsuited m = sym (first_is ∙ rw (sym (sought false e g) ∙ m, ← stops_at false e g m))
 
-  pub open_unfallen : (asked : Bool) (a : ℕ) → a ≡ lowest_of k some asked x y → asked ≡ fall_asked k x.rank → beq (ltb a x.end) some ≡ false
-      → (b : ℕ) → b ≡ lowest_of k some false x y → beq (ltb b x.end) some ≡ true
-      → open_verdict k x y ≡ ask false 24 x.place (cond (not some) a none)
-  unfolding lowest_of ask then verdict23
-  open_unfallen true a e f n b g m =
-      let s = sym (found false b g) ∙ m in
-      first_is ∙ rw (s, ranked_right k x.claim x.rank (sym f), ← f, asks24 (holds s), sym (found true a e) ∙ n, ← e)
-  open_unfallen false a e f n b g m = absurd (subst T (sym m ∙ ap (λ (z : ℕ). beq (ltb z x.end) some) (g ∙ sym e) ∙ n) tt)
+    pub open_unfallen : beq s some ≡ true → (asked : Bool) → asked ≡ fall_asked k x.rank
+        → {q : Option ℕ} → q ≡ below (lowest_of k some asked x y) x.end → {n : Bool} → n ≡ option.is_some q → beq n some ≡ false
+        → Violated 24 x.place (option.unwrap_or q none) ≡ open_verdict k x y
+    unfolding ask then verdict23
+    open_unfallen m true f d h n =
+        let t = sym (sought false e g) ∙ m in
+        sym (first_is ∙ rw (t, ranked_right k x.claim x.rank (sym f), ← f, asks24 (holds t), sym (sought true d h) ∙ n, ← stops_at true d h n))
+    open_unfallen m false f d h n = absurd (subst T (sym m ∙ sought false e g ∙ sym (sought false d h) ∙ n) tt)

@@ -17,6 +17,7 @@ use model::{Claim, Condition, Kind, Model, Rank, Violation};
 
 // What 21 asks of a target's claim: C (arrival, at most); no less than the target's cost (cost, at most), or no more (cost, at least);
 // of arrival, at least, it asks nothing.
+#[tactic(auto, unfolding(model::specs::Conditions::target_asks))]
 fn target_claim(kind: Kind, c: u32, cost: u32, claim: u64) -> bool
     ensures { result ≡ target_asks kind c cost claim }
 {
@@ -29,6 +30,7 @@ fn target_claim(kind: Kind, c: u32, cost: u32, claim: u64) -> bool
 }
 
 // What 23 asks, "at least" only: a claim above 0 has a rank that is not none.
+#[tactic(auto, unfolding(model::specs::Conditions::rank_asks))]
 fn claim_ranked(kind: Kind, claim: u64, rank: u32) -> bool
     ensures { result ≡ rank_asks kind claim rank }
 {
@@ -36,6 +38,7 @@ fn claim_ranked(kind: Kind, claim: u64, rank: u32) -> bool
 }
 
 // 24 is asked at a non-target with a rank, "at least" only.
+#[tactic(auto, unfolding(model::specs::Conditions::fall_asked))]
 fn fall_asked(kind: Kind, rank: u32) -> bool
     ensures { result ≡ fall_asked kind rank }
 {
@@ -43,6 +46,7 @@ fn fall_asked(kind: Kind, rank: u32) -> bool
 }
 
 // 23.
+#[tactic(auto, unfolding(crate::specs::Judging::verdict23))]
 fn ranked(kind: Kind, state: State) -> Result<(), Violation>
     ensures { held result ≡ verdict23 kind state }
 {
@@ -87,6 +91,7 @@ fn judge_open(kind: Kind, state: State, t: &Model, u: &Claim) -> Result<u32, Vio
 }
 
 // 21 to 24 at a state, and its choice, none at a target.
+#[tactic(auto, unfolding(crate::specs::Judging::state_verdict, crate::specs::Judging::state_choice))]
 fn judge_state(kind: Kind, state: State, t: &Model, u: &Claim) -> Result<u32, Violation>
     requires { Walkable kind state (rows_in (model_in t.now) (claim_in u.now)) }
     ensures { let y = rows_in (model_in t.now) (claim_in u.now) in
