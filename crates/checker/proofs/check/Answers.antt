@@ -1,13 +1,14 @@
--- `checker::check` meets its contract: the kind's number names a kind, or is refused. Assumes nothing.
-use mathlib.Core.Path.{refl, sym, ◌∙◌}
+-- `checker::check` meets its contract: judged as its kind is, or 1. Assumes nothing.
+use Rattle.std.proofs.Common.{rules, refl, sym, ◌≡◌}
+use Rattle.model.specs.Answers.{given}
 use Rattle.checker.proofs.Whole.{known_kept, unknown_kept}
 use Rattle.checker.proofs.check.Goals as goal
 
-pub returns-in-As : goal.returns-in-As
-returns-in-As c =
-    known_kept _ _ _ _ _ _ _ (sym c.in-As.is
-    ∙ c.kind_of.ensures) c.check_kind.ensures.0
-    c.check_kind.ensures.1
+pub returns-in-Ok : goal.returns-in-Ok
+returns-in-Ok c =
+    known_kept _ _ _ _ _ _ (sym c.in-Ok.ensures) _ c.check_kind-verdict.ensures.0 c.check_kind-verdict.ensures.1
 
-pub returns-in-Nothing : goal.returns-in-Nothing
-returns-in-Nothing c = unknown_kept _ _ _ _ _ (sym c.in-Nothing.is ∙ c.kind_of.ensures) refl
+pub returns-in-Err : goal.returns-in-Err
+returns-in-Err c =
+    let r : c.into-verdict.result ≡ given c.in-Err.fault = search rules in
+    unknown_kept _ _ _ _ _ _ (sym c.in-Err.ensures) _ r refl

@@ -1,29 +1,28 @@
 -- `checker::check_kind` meets its contract: refused, or judged and the choices with it. Assumes nothing.
-use mathlib.Core.Bool.{not}
-use mathlib.Core.Path.{sym, ap, ◌∙◌}
+use Rattle.std.proofs.Common.{rules, ◌≡◌, sym, ap, ◌∙◌}
+use Rattle.model.specs.Answers.{given, broken}
 use Rattle.model.specs.Checked.{accepts}
-use Rattle.model.proofs.Tried.{goes, stops}
+use Rattle.model.proofs.Searched.{ok_goes, err_stops}
 use Rattle.checker.proofs.Whole.{refused, judged_kept, ready, choices_long, unchosen}
 use Rattle.checker.proofs.check_kind.Goals as goal
 
-pub returns-then-not-accepts : goal.returns-then-not-accepts
-returns-then-not-accepts c =
-    let h = stops c.accepts.ensures (ap not c.if-not-accepts.true) c.refusals-v.ensures in
+pub returns-in-Err : goal.returns-in-Err
+returns-in-Err c =
+    let r : c.into.result ≡ given c.in-Err.fault = search rules in
+    let h = err_stops _ c.in-Err.ensures in
     let e = refused _ _ _ _ h in
-    (c.refusals-v.ensures ∙ e, unchosen _ _ _ _ _ (sym (ap accepts e) ∙ h))
+    (r ∙ c.in-Err.ensures ∙ e, unchosen _ _ _ _ _ (sym (ap accepts e) ∙ h))
 
 pub settle-requires-clause-ready : goal.settle-requires-clause-ready
-settle-requires-clause-ready c =
-    let h = goes c.accepts.ensures (ap not c.if-not-accepts.false) c.refusals-v.ensures in
-    ready _ _ _ c.args.choices.now c.requires h
+settle-requires-clause-ready c = ready _ _ _ c.args.choices.now c.requires (ok_goes c.in_default.ensures)
 
 pub settle-requires-clause-choices_len : goal.settle-requires-clause-choices_len
-settle-requires-clause-choices_len c =
-    let h = goes c.accepts.ensures (ap not c.if-not-accepts.false) c.refusals-v.ensures in
-    choices_long _ _ _ c.args.choices.now h
+settle-requires-clause-choices_len c = choices_long _ _ _ c.args.choices.now (ok_goes c.in_default.ensures)
 
-pub returns : goal.returns
-returns c =
-    let h = goes c.accepts.ensures (ap not c.if-not-accepts.false)
-    c.refusals-v.ensures in
-    judged_kept _ _ _ _ h _ _ c.settle.ensures.0 c.settle.ensures.1
+pub returns-in-Ok : goal.returns-in-Ok
+returns-in-Ok c = judged_kept _ _ _ _ (ok_goes c.in_default.ensures) _ _ c.in-Ok.ensures.0 c.in-Ok.ensures.1
+
+pub returns-in-Err-settle : goal.returns-in-Err-settle
+returns-in-Err-settle c =
+    let r : c.into-in-Err-settle.result ≡ broken c.in-Err-settle.violation = search rules in
+    judged_kept _ _ _ _ (ok_goes c.in_default.ensures) _ _ (r ∙ c.in-Err-settle.ensures.0) c.in-Err-settle.ensures.1
