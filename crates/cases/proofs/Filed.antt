@@ -8,7 +8,7 @@ use Rattle.model.specs.Limits.{none}
 use Rattle.model.specs.Tables.{Claim}
 use Rattle.model.specs.Refusals.{size_tests, weight_scale_test, claim_scale_test, states_test, model_lengths, claim_lengths, length_test}
 use Rattle.model.specs.Refusals.{row_tests, starts_test, start_right, marks_test, walk_test, action_test, range_tests, costs_test, claims_test, ranks_test}
-use Rattle.writer.specs.declared.Written.TheVariants.{Length, Refused}
+use Rattle.writer.specs.Written.{Length, Refused}
 use Rattle.writer.specs.File.{file_of, written_of}
 use Rattle.cases.specs.Worked.{model_a, arrival}
 
