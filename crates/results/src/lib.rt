@@ -37,10 +37,7 @@ pub fn put(r: Answer, answer: &mut [u32]) -> u32
 {
     let number = r.verdict.number();
     let (value, action) = values_of(r.verdict);
-    answer[0] = number;
-    answer[1] = value;
-    answer[2] = action;
-    answer[3] = r.kind;
+    answer.copy_from_slice(&[number, value, action, r.kind]);
     number
 }
 
@@ -86,8 +83,7 @@ pub fn put_two(first: u64, second: u64, res: &mut [u64])
     requires { length res.old ≡ 2 }
     ensures { res.new ≡ first ∷ second ∷ [] }
 {
-    res[0] = first;
-    res[1] = second;
+    res.copy_from_slice(&[first, second]);
 }
 
 // Writes what writing answered into a list of two.
