@@ -63,6 +63,7 @@ pub fn number_or<T: Copy>(done: Result<T, Fault>, number: u32) -> u32
 }
 
 // Writes what a file says before its tables into a list of six: a refusal leaves it alone.
+#[tactic(auto, unfolding(crate::specs::Lists::header_after))]
 pub fn put_header(read: Result<Header, Fault>, header: &mut [u32])
     requires { length header.old ≡ 6 }
     ensures { header.new ≡ header_after (outcome_in read) header.old }
@@ -90,6 +91,7 @@ pub fn put_two(first: u64, second: u64, res: &mut [u64])
 }
 
 // Writes what writing answered into a list of two.
+#[tactic(auto, unfolding(crate::specs::Lists::pair_of))]
 pub fn put_written(written: Result<usize, Fault>, res: &mut [u64])
     requires { length res.old ≡ 2 }
     ensures { res.new ≡ pair_of (written_in written) }
