@@ -4,7 +4,8 @@ use Rattle.program.proofs.unprinted.Goals as goal
 
 pub returns-in-Ok-clause-unprinted : goal.returns-in-Ok-clause-unprinted
 returns-in-Ok-clause-unprinted c =
-    number_read _ _ _ _ c.in-Ok.ensures.filled _ c.in-Ok.ensures.answer _ _ _ c.refusal.ensures (rw c.number.ensures at c.require.ensures) c.number-in-Ok.ensures
+    number_read _ _ _ _ c.in-Ok.ensures.filled _ c.in-Ok.ensures.answer _ _ _
+    c.refusal.ensures (rw c.number.ensures at c.require.ensures) c.number-in-Ok.ensures
 
 pub returns-in-Err-clause-unprinted : goal.returns-in-Err-clause-unprinted
 returns-in-Err-clause-unprinted c =
