@@ -1,8 +1,8 @@
 -- What was read and then cut is what the file holds. Assumes nothing.
-use mathlib.Core.Path.{◌≡◌}
+use mathlib.Core.Path.{◌≡◌, refl}
 use mathlib.Core.List.{List}
 use Prim.Native.Nat.{ℕ, ◌-◌}
-use lib.ListN.{drop}
+use lib.ListN.{take, drop}
 use lib.Seq.{take_at}
 use Rattle.model.specs.Tables.{model_of, claim_of}
 use Rattle.wire.specs.Blocks.{block, numbers, overwritten}
@@ -14,7 +14,13 @@ use Rattle.certfile.specs.Layout.{table_place}
 use Rattle.certfile.specs.Tables.{Tables, ReadInto}
 use Rattle.certfile.specs.Contents.{table_in, model_in, claim_in, cut, model_cut, claim_cut}
 
-cut_read : (h : Header) (i : ℕ) (file table : List ℕ) → cut h i (table_of (Read h) i file table) ≡ table_in h file i
+-- a table that is cut
+pub cut_is : (h : Header) (i : ℕ) (table : List ℕ) → cut h i table ≡ take (block (announced h) (i - 1)).count table
+unfolding cut
+cut_is h i table = refl
+
+-- and one that was read before
+pub cut_read : (h : Header) (i : ℕ) (file table : List ℕ) → cut h i (table_of (Read h) i file table) ≡ table_in h file i
 unfolding cut table_of table_in overwritten table_place
 cut_read h i file table =
     let x = block (announced h) (i - 1) in

@@ -81,7 +81,7 @@ module _ (l file : List ℕ) (h : Header) where
         long = subst (λ (x : Header). length_right x file ≡ true) g f.0;
       }
 
-  has_room : outcome_of l file ≡ Read h → Roomy h l
+  pub has_room : outcome_of l file ≡ Read h → Roomy h l
   has_room e = room_at (announced h) l (all_roomy h l (passed e).counts)
 
 -- what each read asks, at a table's place and number of entries
@@ -143,7 +143,7 @@ module _ (h : Header) (place count : Lengths) (l file : List ℕ) (t : Tables) (
       }
 
 -- tables that keep their lengths lend the same
-pub lengths_kept : (t u : Tables)
+lengths_kept : (t u : Tables)
     → length u.marks ≡ length t.marks
     → length u.action_starts ≡ length t.action_starts
     → length u.branch_starts ≡ length t.branch_starts
@@ -154,10 +154,6 @@ pub lengths_kept : (t u : Tables)
     → length u.ranks ≡ length t.ranks
     → lent u ≡ lent t
 lengths_kept t u a b c d e f g h = rw (a, b, c, d, e, f, g, h)
-
--- tables that a file was read into have room for its blocks
-pub read_roomy : (o : Outcome) (file : List ℕ) (t u : Tables) → ReadInto o file t u → (h : Header) → o ≡ Read h → lent u ≡ lent t → Roomy h (lent u)
-read_roomy o file t u w h e kept = subst (λ (l : List ℕ). Roomy h l) (sym kept) (has_room (lent t) file h (sym w.answer ∙ e))
 
 -- a table that a block overwrites keeps its length
 overwritten_length : (x : Block) (file : List ℕ) (at : ℕ) (table : List ℕ) → x.count ≤ length table → length (overwritten x file at table) ≡ length table
@@ -177,7 +173,7 @@ module _ (h : Header) (file : List ℕ) (t u : Tables) (w : ReadInto (Read h) fi
   kept i x y e fits = ap length e ∙ overwritten_length (block (announced h) (i - 1)) file (size header_blocks + place (announced h) (i - 1)) y fits
 
   -- so each lent table keeps its length where a file was read
-  pub lengths_read : lent u ≡ lent t
+  lengths_read : lent u ≡ lent t
   lengths_read =
       let fits = has_room (lent t) file h (sym w.answer) in
       lengths_kept t u

@@ -40,7 +40,7 @@ impl Lent<'_> {
     }
 
     // The model that stands at their front, as a header counts it.
-    #[tactic(auto, using(crate::proofs::Cut::cut_is))]
+    #[tactic(auto, using(crate::proofs::Contents::cut_is))]
     pub fn model(&self, h: Header) -> Model<'_>
         requires { Roomy h (lent (tables_in self.now)) }
         ensures { model_lent result ≡ model_cut h (tables_in self.now) }
@@ -57,7 +57,7 @@ impl Lent<'_> {
     }
 
     // The claim that stands there.
-    #[tactic(auto, using(crate::proofs::Cut::cut_is))]
+    #[tactic(auto, using(crate::proofs::Contents::cut_is))]
     pub fn claim(&self, h: Header) -> Claim<'_>
         requires { Roomy h (lent (tables_in self.now)) }
         ensures { claim_lent result ≡ claim_cut h (tables_in self.now) }

@@ -9,22 +9,24 @@ use lib.Dec.{T}
 use lib.ListN.{length, take, drop}
 use lib.Seq.{take_at}
 use Rattle.walk.specs.Fold.{listed}
-use Rattle.walk.proofs.Bools.{is_true}
+use Rattle.walk.proofs.Bools.{is_true, holds}
 use Rattle.walk.proofs.Fold.{lowest_is, listed_length}
 use Rattle.model.specs.declared.answers.Verdict.{Verdict}
 use Rattle.model.specs.declared.answers.Verdict.TheVariants.{Accepted, Refused}
 use Rattle.model.specs.declared.answers.Answer.{Answer}
 use Rattle.model.specs.declared.kinds.Kind.{Kind}
 use Rattle.model.specs.declared.answers.Fault.{Fault}
+use Rattle.model.specs.declared.answers.Violation.{Violation}
 use Rattle.std.specs.Prelude.{Ok, Err}
 use Rattle.model.specs.Kinds.{is_some, is_kind, kind_of, known_as, Columns}
 use Rattle.model.specs.Tables.{Model, Claim, states}
-use Rattle.model.specs.Answers.{pass, given, then, tried, require}
-use Rattle.model.specs.Refusals.{entries, lengths_of, kind_test, sizes_of, size_tests, row_tests, ranges_of, range_tests, tests}
+use Rattle.model.specs.Answers.{pass, given, broken as violated, then, tried, require}
+use Rattle.model.specs.Refusals.{entries, lengths_of, kind_test, sizes_of, size_tests, tests}
 use Rattle.model.specs.WellFormed.{Sized, WellFormed}
 use Rattle.model.specs.Conditions.{judged}
 use Rattle.model.specs.Checked.{accepts, greatest_rank, conditions, verdict_of, refusal_of, answer_of, choice, chosen_of, choices_of}
-use Rattle.model.proofs.Tried.{tried_append, tried_all, then_passed, then_stopped, then_assoc, each_all}
+use Rattle.model.proofs.Tried.{tried_all, then_passed, then_stopped, then_assoc, each_all}
+use Rattle.model.proofs.Searched.{ok_goes, err_stops}
 use Rattle.model.proofs.Formed.{entries_most, sized, formed}
 use Rattle.model.proofs.KnownKinds.{named, unnamed}
 use Rattle.rows.specs.Fitting.{Fitting}
@@ -39,23 +41,15 @@ unfolding tried then
 tried_then [] v = refl
 tried_then (x ∷ xs) v = ap (then x) (tried_then xs v) ∙ sym (then_assoc x (tried xs pass) v)
 
-module _ (k : Kind) (t : Model) (u : Claim) (chosen : ℕ) where
-  abbrev sizes : Verdict
-  sizes = tried (sizes_of k t.d u.c (lengths_of t u chosen)) pass
-
-  abbrev rows : Verdict
-  rows = tried (row_tests t) pass
-
-  abbrev ranges : Verdict
-  ranges = tried (ranges_of k (states t) u.c u.costs u.claims u.ranks) pass
-
-  pub sizes_right : T (accepts sizes) → Sized k t u chosen
+-- what follows where refusals 2 to 5 let pass
+module _ (k : Kind) (t : Model) (u : Claim) (chosen : ℕ) (e : pass ≡ tried (sizes_of k t.d u.c (lengths_of t u chosen)) pass) where
+  sizes_right : Sized k t u chosen
   unfolding size_tests
-  sizes_right h = sized k t u chosen (tried_all (size_tests k t u chosen) pass h)
+  sizes_right = sized k t u chosen (tried_all (size_tests k t u chosen) pass (ok_goes e))
 
-  pub fitting : T (accepts sizes) → Fitting t
-  fitting h =
-      let s = sizes_right h in
+  pub fitting : Fitting t
+  fitting =
+      let s = sizes_right in
       record {
         n_most = s.n_most;
         table2 = s.table2;
@@ -66,28 +60,14 @@ module _ (k : Kind) (t : Model) (u : Claim) (chosen : ℕ) where
       }
 
   -- the tables of the claim are as short as the model's states are few
-  pub short : T (accepts sizes) → (length u.costs < 2 ^ 32) × ((length u.claims < 2 ^ 32) × (length u.ranks < 2 ^ 32))
-  short h =
-      let s = sizes_right h in (
-        omega (arith, s.table6, entries_most k.costs (states t), s.n_most),
-        (omega (arith, s.table7, s.n_most), omega (arith, s.table8, entries_most k.ranks (states t), s.n_most)),
-      )
+  pub costs_short : length u.costs < 2 ^ 32
+  costs_short = let s = sizes_right in omega (arith, s.table6, entries_most k.costs (states t), s.n_most)
 
-  -- refusals 2 to 14, by which part stops
-  apart : tried (tests k t u chosen) pass ≡ then sizes (then rows ranges)
-  unfolding tests size_tests range_tests
-  apart =
-      tried_append (size_tests k t u chosen) (row_tests t ++ range_tests k t u) pass
-      ∙ ap (then (tried (size_tests k t u chosen) pass)) (tried_append (row_tests t) (range_tests k t u) pass)
+  pub claims_short : length u.claims < 2 ^ 32
+  claims_short = let s = sizes_right in omega (arith, s.table7, s.n_most)
 
-  pub sizes_stop : accepts sizes ≡ false → sizes ≡ tried (tests k t u chosen) pass
-  sizes_stop h = sym (apart ∙ then_stopped sizes (then rows ranges) h)
-
-  pub rows_stop : T (accepts sizes) → accepts rows ≡ false → rows ≡ tried (tests k t u chosen) pass
-  rows_stop p h = sym (apart ∙ then_passed sizes (then rows ranges) p ∙ then_stopped rows ranges h)
-
-  pub ranges_left : T (accepts sizes) → T (accepts rows) → ranges ≡ tried (tests k t u chosen) pass
-  ranges_left p q = sym (apart ∙ then_passed sizes (then rows ranges) p ∙ then_passed rows ranges q)
+  pub ranks_short : length u.ranks < 2 ^ 32
+  ranks_short = let s = sizes_right in omega (arith, s.table8, entries_most k.ranks (states t), s.n_most)
 
 module _ (k : Kind) (t : Model) (u : Claim) (choices : List ℕ) where
   -- refusals 2 to 14
@@ -99,30 +79,31 @@ module _ (k : Kind) (t : Model) (u : Claim) (choices : List ℕ) where
   split = tried_then (tests k t u (length choices)) (conditions k t u)
 
   -- the verdict, by whether a refusal stands
-  pub refused : accepts refusal ≡ false → refusal ≡ verdict_of k t u choices
-  refused h = sym (split ∙ then_stopped refusal (conditions k t u) h)
+  pub refused : (f : Fault) → given f ≡ refusal → verdict_of k t u choices ≡ given f
+  refused f e = split ∙ then_stopped refusal (conditions k t u) (err_stops f e) ∙ sym e
 
-  judged_on : T (accepts refusal) → conditions k t u ≡ verdict_of k t u choices
-  judged_on h = sym (split ∙ then_passed refusal (conditions k t u) h)
+  pub judged_on : pass ≡ refusal → verdict_of k t u choices ≡ conditions k t u
+  judged_on e = split ∙ then_passed refusal (conditions k t u) (ok_goes e)
 
-  pub judged_kept : T (accepts refusal) → (v : Verdict) (after : List ℕ) → v ≡ conditions k t u → after
-      ≡ chosen_of k t u choices (conditions k t u)
-      → (v ≡ verdict_of k t u choices) × (after ≡ chosen_of k t u choices (verdict_of k t u choices))
-  judged_kept h v after p q = let e = judged_on h in (p ∙ e, q ∙ ap (chosen_of k t u choices) e)
+  well : pass ≡ refusal → WellFormed k t u (length choices)
+  well e = formed k t u (length choices) (tried_all (tests k t u (length choices)) pass (ok_goes e))
 
-  well : T (accepts refusal) → WellFormed k t u (length choices)
-  well h = formed k t u (length choices) (tried_all (tests k t u (length choices)) pass h)
+  pub choices_long : pass ≡ refusal → length choices ≡ entries k.choices (states t)
+  choices_long e = (well e).sized.table9
 
-  pub choices_long : T (accepts refusal) → length choices ≡ entries k.choices (states t)
-  choices_long h = (well h).sized.table9
-
-  pub ready : Columns k → T (accepts refusal) → Ready k t u
-  ready col h = record { columns = col; formed = subst (WellFormed k t u) (choices_long h) (well h) }
+  pub ready : Columns k → pass ≡ refusal → Ready k t u
+  ready col e = record { columns = col; formed = subst (WellFormed k t u) (choices_long e) (well e) }
 
   -- the choice list, by the verdict
   pub unchosen : (v : Verdict) → accepts v ≡ false → choices ≡ chosen_of k t u choices v
   unfolding chosen_of
   unchosen v h = rw h
+
+  pub kept_choices : (v : Verdict) (x : Violation) → violated x ≡ v → chosen_of k t u choices v ≡ choices
+  kept_choices v x e = sym (unchosen v (sym (ap accepts e)))
+
+  pub kept_refused : (v : Verdict) (f : Fault) → given f ≡ v → chosen_of k t u choices v ≡ choices
+  kept_refused v f e = sym (unchosen v (sym (ap accepts e)))
 
   all_met : T (accepts (conditions k t u)) → broken k t u ≡ states t
   unfolding conditions broken
@@ -151,9 +132,11 @@ module _ (k : Kind) (t : Model) (u : Claim) (choices : List ℕ) where
   unfolding chosen_of
   chosen_is v = refl
 
-  pub copied : Columns k → length choices ≡ entries k.choices (states t) → T (accepts (conditions k t u)) → (room : List ℕ)
-      → take (length choices) (room_of k t u room) ≡ chosen_of k t u choices (conditions k t u)
-  copied col e h room = rw (room_is room, chosen_is (conditions k t u), all_met h, is_true (accepts (conditions k t u)) h) (by k.choices refl)
+  pub copied : Columns k → length choices ≡ entries k.choices (states t) → (r : ℕ) → Accepted r ≡ conditions k t u → (room : List ℕ)
+      → chosen_of k t u choices (conditions k t u) ≡ take (length choices) (room_of k t u room)
+  copied col e r a room =
+      let h = holds (sym (ap accepts a)) in
+      sym (rw (room_is room, chosen_is (conditions k t u), all_met h, is_true (accepts (conditions k t u)) h) (by k.choices refl))
     where
       by : (b : Bool) → k.choices ≡ b → take (length choices) (listed (picked k t u) 0 (states t) ++ drop (states t) room)
           ≡ cond (true && b) (listed (choice k t u) 0 (states t)) choices
@@ -163,6 +146,9 @@ module _ (k : Kind) (t : Model) (u : Claim) (choices : List ℕ) where
           (take_at (listed (picked k t u) 0 (states t)) (drop (states t) room) (states t) (listed_length (picked k t u) (states t) 0 ∙ omega arith)
           ∙ picks (sym col.choices ∙ q))
       by false q = empty choices _ (e ∙ ap (λ (b : Bool). entries b (states t)) q)
+
+-- what the check of a kind takes, in one name
+pub ruleset by_refusal = (refused, judged_on, choices_long, ready, kept_refused)
 
 -- what is equal to the definition keeps the promise, demand 3 with it
 pub promise : (kind : ℕ) (t : Model) (u : Claim) (before : List ℕ) (r : Answer) (after : List ℕ)
@@ -192,27 +178,28 @@ module _ (kind : ℕ) (t : Model) (u : Claim) (before after : List ℕ) where
   unfolding choices_of answer_of
   chooses v p = ap (chosen_of (kind_of kind) t u before) p
 
-  pub known_kept : (k : Kind) → known_as kind ≡ Ok k → (v : Verdict) → v ≡ verdict_of k t u before → after ≡ chosen_of k t u before (verdict_of k t u before)
+  pub known_kept : (k : Kind) → Ok k ≡ known_as kind → (v : Verdict) → v ≡ verdict_of k t u before → after ≡ chosen_of k t u before (verdict_of k t u before)
       → Checked kind t u before (record { kind = kind; verdict = v }) after
   known_kept k e v p q =
-      let n = named kind k e in
+      let n = named kind k (sym e) in
       let f = sym (verdict_is n.0) in
       promise kind t u before _ after (answers v (p ∙ ap (λ (x : Kind). verdict_of x t u before) (sym n.1) ∙ f))
       (q ∙ ap (λ (x : Kind). chosen_of x t u before (verdict_of x t u before)) (sym n.1) ∙ chooses (verdict_of (kind_of kind) t u before) f)
 
-  pub unknown_kept : (f : Fault) → known_as kind ≡ Err f → (v : Verdict) → v ≡ given f → after ≡ before
+  pub unknown_kept : (f : Fault) → Err f ≡ known_as kind → (v : Verdict) → v ≡ given f → after ≡ before
       → Checked kind t u before (record { kind = kind; verdict = v }) after
   unknown_kept f e v p q =
-      let n = unnamed kind f e in
+      let n = unnamed kind f (sym e) in
       let w : v ≡ Refused 1 0 = p ∙ ap given n.1 in
       let g = sym (verdict_none n.0) in
       promise kind t u before _ after (answers v (w ∙ g)) (q ∙ unchosen (kind_of kind) t u before (Refused 1 0) refl ∙ chooses (Refused 1 0) g)
 
+-- what a number that is a kind is refused with, and one that is not
 module _ (kind : ℕ) (t : Model) (u : Claim) (chosen : ℕ) where
-  pub known_refused : (k : Kind) → known_as kind ≡ Ok k → (v : Verdict) → v ≡ tried (tests k t u chosen) pass → v ≡ refusal_of kind t u chosen
+  pub known_refusal : (k : Kind) → Ok k ≡ known_as kind → refusal_of kind t u chosen ≡ tried (tests k t u chosen) pass
   unfolding refusal_of then kind_test require
-  known_refused k e v p = let n = named kind k e in p ∙ ap (λ (x : Kind). tried (tests x t u chosen) pass) (sym n.1) ∙ rw n.0
+  known_refusal k e = let n = named kind k (sym e) in rw n.0 (ap (λ (x : Kind). tried (tests x t u chosen) pass) n.1)
 
-  pub unknown_refused : (f : Fault) → known_as kind ≡ Err f → given f ≡ refusal_of kind t u chosen
+  pub unknown_refusal : (f : Fault) → Err f ≡ known_as kind → refusal_of kind t u chosen ≡ given f
   unfolding refusal_of then kind_test require
-  unknown_refused f e = let n = unnamed kind f e in rw (n.1, n.0)
+  unknown_refusal f e = let n = unnamed kind f (sym e) in rw (n.1, n.0)

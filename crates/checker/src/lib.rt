@@ -15,6 +15,7 @@ ghost use Rattle.checker.specs.Promise.{Checked};
 use model::{Answer, Claim, Fault, Kind, Lengths, Model, Verdict, Violation};
 
 // Refusals 2 to 14 with a choice list so long, in number order; none where nothing stands against it.
+#[tactic(auto, using(crate::proofs::Chain::part_by_part))]
 fn refusals(kind: Kind, t: &Model, u: &Claim, chosen: usize) -> Result<(), Fault>
     ensures { tested result ≡ tried (tests kind (model_in t.now) (claim_in u.now) chosen) pass }
 {
@@ -35,6 +36,7 @@ fn refusals(kind: Kind, t: &Model, u: &Claim, chosen: usize) -> Result<(), Fault
 }
 
 // The conditions, and then, only when all is accepted, the choices.
+#[tactic(auto, using(crate::proofs::Whole::kept_choices, crate::proofs::Whole::copied))]
 fn settle(kind: Kind, t: &Model, u: &Claim, choices: &mut [u32]) -> Result<u32, Violation>
     requires ready { Ready kind (model_in t.now) (claim_in u.now) }
     requires choices_len { length choices.old ≡ entries kind.choices (length t.now.marks.now) }
@@ -50,6 +52,7 @@ fn settle(kind: Kind, t: &Model, u: &Claim, choices: &mut [u32]) -> Result<u32, 
 }
 
 // The verdict on a claim of a kind.
+#[tactic(auto, using(crate::proofs::Whole::by_refusal))]
 fn check_kind(kind: Kind, t: &Model, u: &Claim, choices: &mut [u32]) -> Verdict
     requires { Columns kind }
     ensures { let x = model_in t.now in
@@ -79,6 +82,7 @@ pub fn check(kind: u32, t: &Model, u: &Claim, choices: &mut [u32]) -> Answer
 }
 
 // The refusal from 1 to 14 that stands over the lent tables with a choice list so long, or none. It writes nothing.
+#[tactic(auto, using(crate::proofs::Whole::known_refusal, crate::proofs::Whole::unknown_refusal))]
 pub fn refuse(kind: u32, t: &Model, u: &Claim, chosen: usize) -> Result<(), Fault>
     ensures { tested result ≡ refusal_of kind (model_in t.now) (claim_in u.now) chosen }
 {

@@ -1,3 +1,3 @@
-pub mod Cut
+pub mod Chosen
 pub mod Most
 pub mod Taken

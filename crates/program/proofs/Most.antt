@@ -13,7 +13,7 @@ use Rattle.model.specs.Limits.{most_states, most_actions, most_branches}
 use Rattle.model.proofs.Formed.{entries_most}
 use Rattle.wire.specs.Blocks.{size}
 use Rattle.certfile.specs.declared.Header.{Header}
-use Rattle.certfile.specs.declared.Outcome.TheVariants.{Read}
+use Rattle.certfile.specs.Outcome.{Read}
 use Rattle.certfile.specs.File.{header_blocks, table_blocks, announced, blocks, roomy, counts_right, length_right, outcome_of}
 use Rattle.certfile.proofs.Judged.{both_true}
 use Rattle.certfile.proofs.Passed.{passed}

@@ -1,7 +1,7 @@
 // What is printed for a file that is read into lent tables, and what the check program prints.
 #![tactic(auto)]
 
-ghost use Rattle.std.specs.Prelude.{◌≡◌, ◌+◌, ◌*◌, ◌≤◌, length};
+ghost use Rattle.std.specs.Prelude.{◌≡◌, ◌+◌, ◌*◌, ◌≤◌, length, IfOk};
 ghost use Rattle.model.specs.Answers.{number};
 ghost use Rattle.report.specs.Text.{text_of};
 ghost use Rattle.model.specs.Checked.{refusal_of};
@@ -68,6 +68,7 @@ pub struct Told {
 }
 
 // Prints a refusal.
+#[tactic(auto, unfolding(crate::specs::Printed::refused_text))]
 pub fn refused(number: u32, place: u32, text: &mut [u8]) -> usize
     requires { 64 ≤ length text.old }
     ensures { Shows (refused_text number place) result text.old text.new }
@@ -89,10 +90,12 @@ fn tell(verdict: Verdict, choices: &[u32], text: &mut [u8]) -> Told
 }
 
 // Reads a file of at most so many bytes into lent tables.
+#[tactic(auto, using(crate::proofs::Taken::taking), unfolding(certfile::specs::File::table_of))]
 fn load(most: usize, file: &[u8], tables: &mut Lent) -> Result<Header, Fault>
     ensures answer { outcome_in result ≡ loaded_of most (lent (tables_in tables.old)) file.now }
     ensures filled { tables_in tables.new ≡ filled_by (outcome_in result) file.now (tables_in tables.old) }
     ensures same { SameTables tables.old tables.new }
+    ensures roomy { IfOk result (λ h. Roomy h (lent (tables_in tables.new))) }
 {
     Refusal::Counts.unless(file.len() <= most, 0)?;
     certfile::read(file, tables)
@@ -149,6 +152,7 @@ pub fn answer_within(
 }
 
 // Puts what the check program prints for a file at the beginning of the text, and answers its length.
+#[tactic(auto, unfolding(crate::specs::Printed::printed_of))]
 pub fn answer(file: &[u8], text: &mut [u8]) -> usize
     requires { Room.TEXT ≤ length text.old }
     ensures { Shows (printed_of file.now) result text.old text.new }
