@@ -114,6 +114,7 @@ impl Condition {
     }
 }
 
+// Document 01 asks for this enum, its three cases with numbers, where a Result would do.
 #[derive(Clone, Copy, Debug, PartialEq, Eq)]
 pub enum Verdict {
     Accepted {
@@ -182,7 +183,8 @@ impl Verdict {
         }
     }
 
-    // What this says, unless it accepts: then refused with this number at this place, unless it is right.
+    // What this says, unless it accepts: then refused with this number at this place, unless it is right. It takes any number, as it
+    // did before refusals were an enum.
     #[tactic(auto, unfolding(crate::specs::Answers::then, crate::specs::Answers::require))]
     pub fn require(self, right: bool, number: u32, place: u32) -> Verdict
         ensures { result ≡ then self (require right number place) }

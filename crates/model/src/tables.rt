@@ -1,6 +1,6 @@
 // The tables of a model and of a claim, as they are lent, and each limit of document 01 once, with the kind of thing that it bounds.
 
-// A model: the scale D of weights, and tables 1 to 5.
+// A model: the scale D of weights, and tables 1 to 5. C lends destinations and weights as two tables, and starts as places in them.
 #[derive(Clone, Copy)]
 pub struct Model<'a> {
     pub d: u32,
@@ -54,7 +54,7 @@ impl Cost {
     pub const MOST: u32 = 1_000_000_000;
 }
 
-// A rank, the choice list and the action of an answer have one mark for none.
+// A rank, the choice list and the action of an answer have one mark for none, in the file and for C as here.
 #[derive(Clone, Copy)]
 pub struct Rank {}
 

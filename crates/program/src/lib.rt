@@ -67,7 +67,7 @@ pub struct Told {
     pub bytes: usize,
 }
 
-// Prints a refusal.
+// Prints a refusal, of any number.
 #[tactic(auto, unfolding(crate::specs::Printed::refused_text))]
 pub fn refused(number: u32, place: u32, text: &mut [u8]) -> usize
     requires { 64 ≤ length text.old }
@@ -151,7 +151,8 @@ pub fn answer_within(
     }
 }
 
-// Puts what the check program prints for a file at the beginning of the text, and answers its length.
+// Puts what the check program prints for a file at the beginning of the text, and answers its length. `rewritten` has a room of the same
+// arrays: to lend them to a closure, a clause would have to say what it did to the text that it captures, which is no plainer.
 #[tactic(auto, unfolding(crate::specs::Printed::printed_of))]
 pub fn answer(file: &[u8], text: &mut [u8]) -> usize
     requires { Room.TEXT ≤ length text.old }

@@ -157,7 +157,7 @@ impl<'a> Text<'a> {
     }
 }
 
-// Puts a blank and a number into the text from a place on, and answers the next place.
+// Puts a blank and a number into the text from a place on, and answers the next place, for a caller that has a text of its own.
 pub fn spaced(text: &mut [u8], at: usize, n: u32) -> usize
     requires { at + 11 ≤ length text.old }
     ensures put { Put text.old text.new at result (field (decimal n)) }

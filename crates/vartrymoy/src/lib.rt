@@ -1,5 +1,5 @@
 // The library to link: document 01's check, reader and writer, and a file's whole answer, for C and whatever calls C, in numbers and
-// lists of numbers.
+// lists of numbers. C lends each table by itself.
 #![tactic(auto)]
 
 ghost use Rattle.std.specs.Prelude.{length};

@@ -43,7 +43,8 @@ pub trait Word: Copy {
         requires { at + BYTES ≤ length file.now }
         ensures { number result ≡ word BYTES file.now at };
 
-    // Puts its bytes into a file from a place on, and answers the next place.
+    // Puts its bytes into a file from a place on, and answers the next place. File and place are no struct: `Put` says of any place
+    // what the file is afterwards, and few puts follow each other.
     fn put(self, file: &mut [u8], at: usize) -> usize
         requires { at + BYTES ≤ length file.old }
         ensures { Put file.old file.new at result (text self) };
