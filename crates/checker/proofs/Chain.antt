@@ -39,7 +39,8 @@ module _ (k : Kind) (l : Lengths) where
   all_claim_lengths = refl
 
 pub all_model_lengths : (l : Lengths) → model_lengths l ≡ require (eqb l.action_starts (l.marks + 1)) 5 2
-    ∷ require (between 2 (most_actions + 1) l.branch_starts) 5 3 ∷ require (leb l.destinations most_branches) 5 4 ∷ require (eqb l.weights l.destinations) 5 5 ∷ []
+    ∷ require (between 2 (most_actions + 1) l.branch_starts) 5 3 ∷ require (leb l.destinations most_branches) 5 4
+    ∷ require (eqb l.weights l.destinations) 5 5 ∷ []
 unfolding model_lengths length_test
 all_model_lengths l = refl
 

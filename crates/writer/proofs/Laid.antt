@@ -5,13 +5,13 @@ use Prim.Native.Nat.{ℕ, zero, suc, ◌+◌, ◌-◌, ◌*◌, ◌≤◌, ◌<�
 use native.Mathlib.Omega.{arith}
 use lib.ListN.{length, get_or, drop, length-append}
 use Rattle.walk.specs.Put.{Put}
-use Rattle.walk.proofs.Putting.{put_then, put_same, put_length, put_whole}
+use Rattle.walk.proofs.Putting.{put_then, put_same, put_whole}
 use Rattle.model.specs.Tables.{Model, Claim}
 use Rattle.wire.specs.Words.{bytes}
 use Rattle.wire.specs.Blocks.{size}
 use Rattle.wire.specs.Sections.{sections_of, spelled, written}
 use Rattle.wire.specs.Word.{bytes_length}
-use Rattle.wire.proofs.Spelled.{spelled_length, spell_ends}
+use Rattle.wire.proofs.Spelled.{spelled_length}
 use Rattle.wire.proofs.RoundTrip.{bytes_spelled}
 use Rattle.certfile.specs.declared.Header.{Header}
 use Rattle.certfile.specs.File.{header_blocks, announced, blocks}
@@ -62,50 +62,14 @@ head_put h count file w p q r s =
     put_same (put_then p (put_then q (put_then r s)))
     (ap (λ (n : ℕ). bytes 4 (n - 4) ++ ((1 ∷ []) ++ ((h.kind ∷ []) ++ spelled 4 (numbers h)))) w.counted ∙ sym (head_parts h w.kind))
 
-pub head_length : (h : Header) → h.kind < 256 → length (head_bytes h) ≡ 26
-head_length h l =
-    ap length (head_parts h l)
-    ∙ simp length-append (omega (arith, bytes_length 4 (size (blocks h) - 4), spelled_length 4 (numbers h)))
+pub head_length : (h : Header) → length (head_bytes h) ≡ 26
+head_length h = ap length (head_is h) ∙ simp (length-append, spelled_length) refl
 
--- so many bytes are put, and the file is as long as it was
-pub record Reached (file now : List ℕ) (at so : ℕ) : Type 0 where
-  pub place : at ≡ so
-  pub long : length now ≡ length file
-
-pub head_on : (h : Header) → h.kind < 256 → {file now : List ℕ} {at : ℕ} → Put file now 0 at (head_bytes h) → Reached file now at 26
-head_on h l p = record { place = omega (arith, p.next, head_length h l); long = put_length p }
-
-module _ {file now now' : List ℕ} {at at' so : ℕ} (r : Reached file now at so) where
-  pub copy_on : {xs : List ℕ} → Put now now' at at' xs → Reached file now' at' (so + 1 * length xs)
-  copy_on p = record { place = omega (arith, p.next, r.place); long = put_length p ∙ r.long }
-
-  pub spell_on : (width : ℕ) (xs : List ℕ) → Put now now' at at' (spelled width xs) → Reached file now' at' (so + width * length xs)
-  spell_on width xs p = record { place = omega (arith, spell_ends width xs p, r.place); long = put_length p ∙ r.long }
-
--- where each table ends
-abbrev pub end1 : Model → Claim → ℕ
-end1 t u = 26 + 1 * length t.marks
-
-abbrev pub end2 : Model → Claim → ℕ
-end2 t u = end1 t u + 4 * length t.action_starts
-
-abbrev pub end3 : Model → Claim → ℕ
-end3 t u = end2 t u + 4 * length t.branch_starts
-
-abbrev pub end4 : Model → Claim → ℕ
-end4 t u = end3 t u + 4 * length t.destinations
-
-abbrev pub end5 : Model → Claim → ℕ
-end5 t u = end4 t u + 4 * length t.weights
-
-abbrev pub end6 : Model → Claim → ℕ
-end6 t u = end5 t u + 4 * length u.costs
-
-abbrev pub end7 : Model → Claim → ℕ
-end7 t u = end6 t u + 8 * length u.claims
-
-abbrev pub end8 : Model → Claim → ℕ
-end8 t u = end7 t u + 4 * length u.ranks
+-- where the last table ends
+abbrev pub ends : Model → Claim → ℕ
+ends t u =
+    26 + 1 * length t.marks + 4 * length t.action_starts + 4 * length t.branch_starts + 4 * length t.destinations + 4 * length t.weights
+    + 4 * length u.costs + 8 * length u.claims + 4 * length u.ranks
 
 -- the header and then tables 1 to 8
 module _ (h : Header) (t : Model) (u : Claim) where
@@ -123,10 +87,10 @@ module _ (h : Header) (t : Model) (u : Claim) where
   unfolding written sections sections_of blocks announced
   parts = refl
 
-  pub whole_length : h.kind < 256 → length (written (sections h t u)) ≡ end8 t u
-  whole_length l = ap length parts ∙ simp (length-append, spelled_length) (omega (arith, head_length h l))
+  pub whole_length : length (written (sections h t u)) ≡ ends t u
+  whole_length = ap length parts ∙ simp (length-append, spelled_length) (omega (arith, head_length h))
 
-  pub laid : h.kind < 256 → ((i : ℕ) → get_or t.marks i 0 < 256) → (file : List ℕ) → end8 t u ≤ length file
+  pub laid : ((i : ℕ) → get_or t.marks i 0 < 256) → (file : List ℕ) → ends t u ≤ length file
       → {t₁ t₂ t₃ t₄ t₅ t₆ t₇ t₈ t₉ : List ℕ} {a₁ a₂ a₃ a₄ a₅ a₆ a₇ a₈ a₉ : ℕ}
       → Put file t₁ 0 a₁ (head_bytes h)
       → Put t₁ t₂ a₁ a₂ t.marks
@@ -139,8 +103,11 @@ module _ (h : Header) (t : Model) (u : Claim) where
       → Put t₈ t₉ a₈ a₉ (spelled 4 u.ranks)
       → t₉ ≡ overlaid (written (sections h t u)) file
   unfolding overlaid
-  laid l m file room p₁ p₂ p₃ p₄ p₅ p₆ p₇ p₈ p₉ =
+  laid m file room p₁ p₂ p₃ p₄ p₅ p₆ p₇ p₈ p₉ =
       let all = put_same (put_then p₁ (put_then p₂ (put_then p₃ (put_then p₄ (put_then p₅ (put_then p₆ (put_then p₇ (put_then p₈ p₉))))))))
       (sym (parts ∙ rw (bytes_spelled t.marks m, append-nil (spelled 4 u.ranks)))) in
-      let e = put_whole all (omega (arith, all.next, whole_length l)) in
+      let e = put_whole all (omega (arith, all.next, whole_length)) in
       e.1 ∙ ap (λ (n : ℕ). written (sections h t u) ++ drop n file) e.0
+
+-- what putting the header takes, in one name
+pub ruleset heading = (head_least, header_bytes, bytes_length)

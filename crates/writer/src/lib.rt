@@ -31,6 +31,7 @@ fn header(kind: u32, t: &Model, u: &Claim) -> Header
 }
 
 // The header of a file of so many bytes.
+#[tactic(auto, using(crate::proofs::Laid::heading))]
 fn head(file: &mut [u8], h: Header, bytes: usize) -> usize
     requires { HeadRoom h bytes file.old }
     ensures { Put file.old file.new 0 result (written (sections_of header_blocks (heads h))) }
@@ -45,6 +46,7 @@ fn head(file: &mut [u8], h: Header, bytes: usize) -> usize
 
 // What writing the file into a buffer of so many bytes would answer: its length, or the first refusal: 1 to 14 as the checker gives
 // them, with the choice list aside, and then 35.
+#[tactic(auto, using(crate::proofs::Judged::previewing))]
 pub fn preview(kind: u32, t: &Model, u: &Claim, buffer: usize) -> Result<usize, Fault>
     ensures { written_in result ≡ written_of kind (model_in t.now) (claim_in u.now) buffer }
 {
@@ -56,6 +58,7 @@ pub fn preview(kind: u32, t: &Model, u: &Claim, buffer: usize) -> Result<usize, 
 
 // Writes the file that the lent tables make into a lent buffer, from its front on, and answers its length; or the first refusal, which
 // writes nothing.
+#[tactic(auto, using(crate::proofs::Judged::writing))]
 pub fn write(kind: u32, t: &Model, u: &Claim, buffer: &mut [u8]) -> Result<usize, Fault>
     ensures { WrittenInto (written_in result) kind (model_in t.now) (claim_in u.now) buffer.old buffer.new }
 {
