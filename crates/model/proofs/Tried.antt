@@ -11,7 +11,6 @@ use borrow.Author.Tests.{lt-ltb, le-ltb, not-true, not-false}
 use Rattle.walk.specs.Fold.{first, any}
 use Rattle.walk.proofs.Bools.{holds}
 use Rattle.walk.proofs.Fold.{down, at_end, from_end, from_step, lowest, Lowest}
-use Rattle.walk.proofs.Loop.{Seeking, seek_start, seek_pass, seek_hit, seek_end}
 use Rattle.model.specs.declared.answers.Verdict.{Verdict}
 use Rattle.model.specs.declared.answers.Verdict.TheVariants.{Accepted, Refused, Violated}
 use Rattle.model.specs.Answers.{pass, then, tried, each, require, throughout}
@@ -81,13 +80,6 @@ pub tried_stop : (x : Verdict) (xs : List Verdict) (v : Verdict) → accepts x �
 unfolding tried
 tried_stop x xs v h = then_stopped x (tried xs v) h
 
--- in code, where b is whether the verdict accepts: it does not stop, or it does
-pub goes : {b : Bool} {v x : Verdict} → b ≡ accepts v → not b ≡ false → v ≡ x → T (accepts x)
-goes {b} e n q = holds (sym (e ∙ ap accepts q) ∙ not-false b n)
-
-pub stops : {b : Bool} {v x : Verdict} → b ≡ accepts v → not b ≡ true → v ≡ x → accepts x ≡ false
-stops {b} e n q = sym (e ∙ ap accepts q) ∙ not-true b n
-
 -- a test that can only pass or refuse is its own last word
 pub settled : (x : Verdict) → (T (accepts x) → x ≡ pass) → then x pass ≡ x
 unfolding then
@@ -128,10 +120,6 @@ pub right_require : (b : Bool) (k p : ℕ) → T b → require b k p ≡ pass
 unfolding require
 right_require true k p h = refl
 right_require false k p h = absurd h
-
-pub wrong_require : (b : Bool) (k p : ℕ) → b ≡ false → require b k p ≡ Refused k p
-unfolding require
-wrong_require b k p h = rw h
 
 pub passes_require : (b : Bool) (k p : ℕ) → T b → T (accepts (require b k p))
 passes_require b k p h = rw (right_require b k p h) tt
@@ -221,24 +209,3 @@ module _ (right : ℕ → Bool) (n k : ℕ) where
       by : (n ≤ first (λ j. not (right j)) 0 n) ⊎ (first (λ j. not (right j)) 0 n < n) → first (λ j. not (right j)) 0 n ≡ n
       by (inl q) = omega (arith, low.high)
       by (inr q) = absurd (subst T (not-true (right (first (λ j. not (right j)) 0 n)) (low.hit q)) (p (first (λ j. not (right j)) 0 n) q))
-
-  pub throughout_word : tried (throughout right n k ∷ []) pass ≡ throughout right n k
-  unfolding tried
-  throughout_word = settled (throughout right n k) (λ h. all_throughout (throughout_all h))
-
--- the loop that tests a table: right at each index below i
-pub record Through (right : ℕ → Bool) (n i : ℕ) : Type 0 where
-  pub seeking : Seeking (λ j. not (right j)) n (first (λ j. not (right j)) 0 n) i
-
-pub through_start : (right : ℕ → Bool) (n : ℕ) → Through right n 0
-through_start right n = record { seeking = seek_start (λ j. not (right j)) 0 n zero-le }
-
-module _ {right : ℕ → Bool} {n i : ℕ} (w : Through right n i) where
-  pub through_pass : i < n → right i ≡ true → Through right n (i + 1)
-  through_pass h e = record { seeking = seek_pass w.seeking h (rw e) }
-
-  pub through_stop : (k : ℕ) → i < n → right i ≡ false → Refused k i ≡ throughout right n k
-  through_stop k h e = throughout_stop right n k i h (seek_hit w.seeking h (rw e))
-
-  pub through_end : (k : ℕ) → n ≤ i → pass ≡ throughout right n k
-  through_end k h = throughout_pass right n k (seek_end w.seeking h)

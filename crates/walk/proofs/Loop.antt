@@ -1,15 +1,15 @@
 -- The invariants of the loops that compute a fold: each holds at the start, passes a turn, and gives the whole at the end.
 -- Assumes nothing.
-use mathlib.Core.Path.{◌≡◌, refl, sym, ap, ◌∙◌}
+use mathlib.Core.Path.{◌≡◌, refl, sym, ◌∙◌}
 use mathlib.Core.Bool.{Bool, true, false}
 use mathlib.Core.List.{List, [], ◌∷◌, ◌++◌, append_assoc}
-use Prim.Native.Nat.{ℕ, suc, ◌+◌, ◌≤◌, ◌<◌, max, min, zero-le}
-use native.Mathlib.Nat.{le_refl, zero-add}
+use Prim.Native.Nat.{ℕ, suc, ◌+◌, ◌≤◌, ◌<◌, min, zero-le}
+use native.Mathlib.Nat.{le_refl}
 use native.Mathlib.Numerals.{add-one}
 use native.Mathlib.Omega.{arith}
-use lib.ListN.{length, get_or, take, drop, set, length-append, length-drop}
-use lib.Seq.{drop-cons, set_at, ext_get_or, get_or-take, length-take-le}
-use Rattle.walk.specs.Fold.{first, sum, greatest, least, listed}
+use lib.ListN.{length, get_or, drop, set}
+use lib.Seq.{drop-cons, set_at}
+use Rattle.walk.specs.Fold.{first, sum, least, listed}
 use Rattle.walk.proofs.Fold
 
 -- A search: the lowest index from i on is the lowest of all.
@@ -49,21 +49,6 @@ module _ {f : ℕ → ℕ} {hi whole i acc : ℕ} (w : Summing f hi whole i acc)
   pub sum_ends : hi ≤ i → acc ≡ whole
   sum_ends h = omega (arith, Fold.sum_end f i hi h, w.rest)
 
--- A maximum: the greatest so far and that of the rest come to the whole.
-pub record Rising (f : ℕ → ℕ) (hi whole i acc : ℕ) : Type 0 where
-  pub high : i ≤ hi
-  pub rest : max acc (greatest f i hi) ≡ whole
-
-pub rise_start : (f : ℕ → ℕ) (lo hi : ℕ) → lo ≤ hi → Rising f hi (greatest f lo hi) lo 0
-rise_start f lo hi h = record { high = h; rest = omega arith }
-
-module _ {f : ℕ → ℕ} {hi whole i acc : ℕ} (w : Rising f hi whole i acc) where
-  pub rise_pass : i < hi → (next : ℕ) → next ≡ max acc (f i) → Rising f hi whole (i + 1) next
-  rise_pass h next e = record { high = omega arith; rest = omega (arith, Fold.greatest_step f i hi h, w.rest, e) }
-
-  pub rise_end : hi ≤ i → acc ≡ whole
-  rise_end h = omega (arith, Fold.greatest_end f i hi h, w.rest)
-
 -- A minimum: the least so far and that of the rest come to the whole.
 pub record Sinking (f : ℕ → ℕ) (z hi whole i acc : ℕ) : Type 0 where
   pub high : i ≤ hi
@@ -89,12 +74,6 @@ pub fill_start : (f : ℕ → ℕ) (start : List ℕ) (hi : ℕ) → hi ≤ leng
 fill_start f start hi h = record { high = zero-le; room = h; filled = rw (Fold.listed_end f 0 0 (le_refl 0)) }
 
 module _ {f : ℕ → ℕ} {start : List ℕ} {hi i : ℕ} {now : List ℕ} (w : Filling f start hi i now) where
-  -- its length is what it was
-  pub fill_length : length now ≡ length start
-  fill_length =
-      ap length w.filled
-      ∙ simp (length-append, length-drop, Fold.listed_length) (omega (arith, w.high, w.room))
-
   pub fill_pass : i < hi → (v : ℕ) → v ≡ f i → Filling f start hi (i + 1) (set now i v)
   fill_pass h v e =
       record {
@@ -108,11 +87,3 @@ module _ {f : ℕ → ℕ} {start : List ℕ} {hi i : ℕ} {now : List ℕ} (w :
 
   pub fill_end : hi ≤ i → now ≡ listed f 0 hi ++ drop hi start
   fill_end h = let q : i ≡ hi = omega (arith, w.high) in rw (← q) w.filled
-
--- entries listed one by one are the front of their list
-pub listed_take : (xs : List ℕ) (n : ℕ) → n ≤ length xs → listed (λ i. get_or xs i 0) 0 n ≡ take n xs
-listed_take xs n h =
-    ext_get_or 0 (listed (λ i. get_or xs i 0) 0 n) (take n xs) (Fold.listed_length (λ i. get_or xs i 0) n 0 ∙ sym (length-take-le n xs h ∙ omega arith))
-    (λ i l.
-    let b : i < n = omega (arith, Fold.listed_length (λ i. get_or xs i 0) n 0) in
-    Fold.listed_at (λ i. get_or xs i 0) 0 n 0 i (omega arith) ∙ ap (λ (j : ℕ). get_or xs j 0) (zero-add i) ∙ sym (get_or-take n xs i 0 b))

@@ -1,12 +1,11 @@
 -- Bytes put one after the other: the laws of such stores. Assumes nothing.
-use mathlib.Core.Path.{◌≡◌, refl, ap, ◌∙◌}
+use mathlib.Core.Path.{◌≡◌, refl, ◌∙◌}
 use mathlib.Core.List.{List, [], ◌∷◌, ◌++◌}
-use Prim.Native.Nat.{ℕ, suc, ◌+◌, ◌≤◌, ◌<◌}
+use Prim.Native.Nat.{ℕ, suc, ◌+◌, ◌≤◌}
 use native.Mathlib.Nat.{add-zero, zero-add}
-use native.Mathlib.Numerals.{add-one}
 use native.Mathlib.Omega.{arith}
-use lib.ListN.{length, get_or, take, drop, set, length-append}
-use lib.Seq.{sets, length-sets, sets-eq, take-suc}
+use lib.ListN.{length, drop, set, length-append}
+use lib.Seq.{sets, sets-eq}
 use Rattle.walk.specs.Put.{Put}
 
 -- two runs of stores, the second where the first ends
@@ -29,30 +28,8 @@ put_then {t} {t'} {t''} {at} {mid} {next} {a} {b} p q =
 pub put_same : {t t' : List ℕ} {at next : ℕ} {a b : List ℕ} → Put t t' at next a → a ≡ b → Put t t' at next b
 put_same p e = rw (← e) p
 
-pub put_length : {t t' : List ℕ} {at next : ℕ} {a : List ℕ} → Put t t' at next a → length t' ≡ length t
-put_length {t} {t'} {at} {next} {a} p = ap length p.text ∙ length-sets t at a
-
 -- put at the beginning, it stands before what is left of the text
 pub put_whole : {t t' : List ℕ} {next : ℕ} {a : List ℕ} → Put t t' 0 next a → next ≤ length t → (next ≡ length a) × (t' ≡ a ++ drop next t)
 put_whole {t} {t'} {next} {a} p h =
     let e : next ≡ length a = p.next ∙ zero-add (length a) in
     (e, p.text ∙ sets-eq a t 0 (omega arith) ∙ rw (e, zero-add (length a)))
-
--- A list that is copied byte by byte.
-pub record Copying (list t : List ℕ) (at i : ℕ) (now : List ℕ) : Type 0 where
-  pub high : i ≤ length list
-  pub put : Put t now at (at + i) (take i list)
-
-pub copy_start : (list t : List ℕ) (at : ℕ) → Copying list t at 0 t
-copy_start list t at = record { high = omega arith; put = record { next = refl; text = refl } }
-
-module _ {list t : List ℕ} {at i : ℕ} {now : List ℕ} (w : Copying list t at i now) where
-  pub copy_pass : i < length list → Copying list t at (i + 1) (set now (at + i) (get_or list i 0))
-  copy_pass h =
-      let e : at + i + 1 ≡ at + (i + 1) = omega arith in
-      record {
-        high = omega arith;
-        put =
-            rw (add-one i, take-suc list i 0 h, ← add-one i, ← e)
-            (put_then w.put (put_byte now (at + i) (get_or list i 0)));
-      }

@@ -26,13 +26,6 @@ written_length (x ∷ xs) =
     length-append (spelled x.width x.numbers) (written xs)
     ∙ omega (arith, spelled_length x.width x.numbers, written_length xs)
 
--- where a number that is put ends, and numbers
-pub put_ends : (width x : ℕ) {t t' : List ℕ} {at next : ℕ} → Put t t' at next (bytes width x) → next ≡ at + width
-put_ends width x p = omega (arith, p.next, bytes_length width x)
-
-pub spell_ends : (width : ℕ) (xs : List ℕ) {t t' : List ℕ} {at next : ℕ} → Put t t' at next (spelled width xs) → next ≡ at + width * length xs
-spell_ends width xs p = omega (arith, p.next, spelled_length width xs)
-
 -- so much is put, and the rest is still to come
 pub record Spelling {A : Type 0} (texts : List A → List ℕ) (width : ℕ) (table : List A) (t : List ℕ) (start i at : ℕ) (now : List ℕ) : Type 0 where
   pub high : i ≤ length table
