@@ -1,5 +1,5 @@
 -- Bytes put one after the other: the laws of such stores. Assumes nothing.
-use mathlib.Core.Path.{◌≡◌, refl, ◌∙◌}
+use mathlib.Core.Path.{◌≡◌, ◌∙◌}
 use mathlib.Core.List.{List, [], ◌∷◌, ◌++◌}
 use Prim.Native.Nat.{ℕ, suc, ◌+◌, ◌≤◌}
 use native.Mathlib.Nat.{add-zero, zero-add}
@@ -14,9 +14,6 @@ sets_append t i [] b = rw (add-zero i)
 sets_append t i (x ∷ a) b =
     let e : i + suc (length a) ≡ suc i + length a = omega arith in
     rw e (sets_append (set t i x) (suc i) a b)
-
-pub put_byte : (t : List ℕ) (at v : ℕ) → Put t (set t at v) at (at + 1) (v ∷ [])
-put_byte t at v = record { next = refl; text = refl }
 
 pub put_then : {t t' t'' : List ℕ} {at mid next : ℕ} {a b : List ℕ} → Put t t' at mid a → Put t' t'' mid next b → Put t t'' at next (a ++ b)
 put_then {t} {t'} {t''} {at} {mid} {next} {a} {b} p q =
