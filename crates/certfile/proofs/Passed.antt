@@ -143,7 +143,7 @@ module _ (h : Header) (place count : Lengths) (l file : List ℕ) (t : Tables) (
       }
 
 -- tables that keep their lengths lend the same
-lengths_kept : (t u : Tables)
+pub lengths_kept : (t u : Tables)
     → length u.marks ≡ length t.marks
     → length u.action_starts ≡ length t.action_starts
     → length u.branch_starts ≡ length t.branch_starts
@@ -154,6 +154,10 @@ lengths_kept : (t u : Tables)
     → length u.ranks ≡ length t.ranks
     → lent u ≡ lent t
 lengths_kept t u a b c d e f g h = rw (a, b, c, d, e, f, g, h)
+
+-- tables that a file was read into have room for its blocks
+pub read_roomy : (o : Outcome) (file : List ℕ) (t u : Tables) → ReadInto o file t u → (h : Header) → o ≡ Read h → lent u ≡ lent t → Roomy h (lent u)
+read_roomy o file t u w h e kept = subst (λ (l : List ℕ). Roomy h l) (sym kept) (has_room (lent t) file h (sym w.answer ∙ e))
 
 -- a table that a block overwrites keeps its length
 overwritten_length : (x : Block) (file : List ℕ) (at : ℕ) (table : List ℕ) → x.count ≤ length table → length (overwritten x file at table) ≡ length table

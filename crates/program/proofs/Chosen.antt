@@ -11,6 +11,9 @@ use Rattle.model.specs.Kinds.{kind_of}
 use Rattle.model.proofs.Formed.{entries_most}
 use Rattle.certfile.specs.declared.Header.{Header}
 use Rattle.certfile.specs.Outcome.{Read}
+use Rattle.certfile.specs.Tables.{Tables}
+use Rattle.certfile.proofs.Cut.{Cuts, reaches}
+use Rattle.model.specs.declared.tables.Lengths.{Lengths}
 use Rattle.certfile.specs.File.{announced}
 use Rattle.program.specs.Printed.{loaded_of}
 use Rattle.program.specs.Shows.{Long}
@@ -25,6 +28,13 @@ pub long_enough : (h : Header) (most : ℕ) (file l : List ℕ) → Read h ≡ l
 unfolding block announced
 long_enough h most file l e chosen list text f long =
     let few : chosen ≤ get_or l 0 0 = omega (arith, f, entries_most (kind_of h.kind).choices h.n, had_room most file l h e 0) in
+    record { choices = omega (arith, few, long.choices); printed = omega (arith, few, long.printed) }
+
+-- so too where the room is that of the marks of tables that are cut
+pub long_cut : {count : Lengths} {u : Tables} → Cuts count u → (kind chosen most : ℕ) (list text : List ℕ) → length u.marks ≡ most
+    → chosen ≡ choice_count kind count.marks → Long most list text → Long chosen list text
+long_cut {count = count} {u = u} all kind chosen most list text same f long =
+    let few : chosen ≤ most = omega (arith, f, entries_most (kind_of kind).choices count.marks, reaches count.marks u.marks all.marks, same) in
     record { choices = omega (arith, few, long.choices); printed = omega (arith, few, long.printed) }
 
 -- the lent list after the check, whose first entries it overwrote

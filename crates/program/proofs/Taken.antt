@@ -22,8 +22,8 @@ use Rattle.soundness.specs.Demand3.{Holds}
 use Rattle.checker.specs.Promise.{Checked}
 use Rattle.certfile.specs.declared.Header.{Header}
 use Rattle.certfile.specs.Outcome.{Outcome, Read, Refused}
-use Rattle.certfile.specs.File.{outcome_of}
-use Rattle.certfile.specs.Tables.{Tables, Roomy}
+use Rattle.certfile.specs.File.{outcome_of, table_of}
+use Rattle.certfile.specs.Tables.{Tables, tables, lent, Roomy, ReadInto}
 use Rattle.certfile.specs.Contents.{model_in, claim_in, model_cut, claim_cut}
 use Rattle.certfile.proofs.Contents.{cut_read}
 use Rattle.certfile.proofs.Judged.{right_passed, wrong_refused}
@@ -33,31 +33,49 @@ use Rattle.program.specs.declared.Told.{Told}
 use Rattle.program.specs.Printed.{loaded_of, refusal_in, verdict_in, read_text, refused_text, checked_text, choices_in, chosen_in, filled_by}
 use Rattle.program.specs.Shows.{Shows, Unprinted, Answered}
 
+-- a file was read into lent tables, if it is no longer than the most that is taken
+pub record LoadedInto (most : ℕ) (r : Outcome) (file : List ℕ) (before after : Tables) : Type 0 where
+  pub answer : r ≡ loaded_of most (lent before) file
+  pub tables : after ≡ filled_by r file before
+
 -- over-long input is refused before all else, and any other is read
+pub too_long : (most : ℕ) (file : List ℕ) (t : Tables) → most < length file → LoadedInto most (Refused 33 0) file t t
+unfolding loaded_of table_of
+too_long most file t h = record { answer = rw (lt-ltb most (length file) h); tables = refl }
+
+pub not_too_long : (most : ℕ) (file : List ℕ) (t u : Tables) (o : Outcome) → length file ≤ most → ReadInto o file t u → LoadedInto most o file t u
+unfolding loaded_of
+not_too_long most file t u o h w =
+    record {
+      answer = rw (le-ltb most (length file) h) w.answer;
+      tables = λ j. tables (w.marks j) (w.action_starts j) (w.branch_starts j) (w.destinations j) (w.weights j) (w.costs j) (w.claims j) (w.ranks j);
+    }
+
+-- the answer alone, over the lengths that are lent
 module _ (most : ℕ) (file l : List ℕ) where
   abbrev by_length : Bool → Outcome
   by_length long = cond long (Refused 33 0) (outcome_of l file)
 
-  too_long : most < length file → loaded_of most l file ≡ Refused 33 0
+  refused_first : most < length file → loaded_of most l file ≡ Refused 33 0
   unfolding loaded_of
-  too_long h = ap by_length (lt-ltb most (length file) h)
+  refused_first h = ap by_length (lt-ltb most (length file) h)
 
-  not_too_long : length file ≤ most → loaded_of most l file ≡ outcome_of l file
+  passes_on : length file ≤ most → loaded_of most l file ≡ outcome_of l file
   unfolding loaded_of
-  not_too_long h = ap by_length (le-ltb most (length file) h)
+  passes_on h = ap by_length (le-ltb most (length file) h)
 
   -- so too by the test that is passed or refused
   pub long_refused : (f : Fault) → given f ≡ require (leb (length file) most) 33 0 → Refused (code f.refusal) f.place ≡ loaded_of most l file
   long_refused f e =
       let w = wrong_refused (leb (length file) most) 33 f e in
-      rw (w.1.0, w.1.1) (sym (too_long (leb-false (length file) most w.0)))
+      rw (w.1.0, w.1.1) (sym (refused_first (leb-false (length file) most w.0)))
 
   pub rest_read : pass ≡ require (leb (length file) most) 33 0 → loaded_of most l file ≡ outcome_of l file
-  rest_read e = not_too_long (leb-true (length file) most (right_passed (leb (length file) most) 33 e))
+  rest_read e = passes_on (leb-true (length file) most (right_passed (leb (length file) most) 33 e))
 
   -- tables that a file was read into had room for it
   pub had_room : (h : Header) → Read h ≡ loaded_of most l file → Roomy h l
-  had_room h e = ⊎_elim (λ fits. has_room l file h (sym (e ∙ not_too_long fits))) (λ long. absurd (apart (e ∙ too_long long))) (at_end most (length file))
+  had_room h e = ⊎_elim (λ fits. has_room l file h (sym (e ∙ passes_on fits))) (λ long. absurd (apart (e ∙ refused_first long))) (at_end most (length file))
     where
       apart : Read h ≡ Refused 33 0 → ⊥
       apart q = let z : ◌≡◌ {A = ℕ} 0 1 = cc in omega arith

@@ -33,6 +33,11 @@ appends = record { one = one; more = more }
     more zero n h = refl
     more (suc k) n h = rw (le-ltb n 10 h)
 
+pub decimal_one : (n : ℕ) → n < 10 → decimal n ≡ digit (n % 10) ∷ []
+unfolding decimal spelled
+decimal_one zero h = refl
+decimal_one (suc n) h = rw (lt-ltb (suc n) 10 h)
+
 pub decimal_is : (n : ℕ) → Fits w64 n → Fmt.decimal n ≡ decimal n
 unfolding decimal last
 decimal_is n h = sym (decimal_from_appends last appends (suc n) n (omega (arith, h)) (omega (arith, length-decimal-le_succ n (omega (arith, h)))))

@@ -1,4 +1,5 @@
 -- The walk over one action's branches: what it has shown at branch j, and what each way out of it answers. Assumes nothing.
+use mathlib.Core.Bool.{false}
 use mathlib.Core.Path.{◌≡◌, sym, ap, ◌∙◌}
 use mathlib.Core.List.{[], ◌∷◌}
 use Prim.Native.Nat.{ℕ, ◌+◌, ◌*◌, ◌≤◌, ◌<◌, zero-le}
@@ -9,7 +10,9 @@ use Rattle.walk.specs.Fold.{sum}
 use Rattle.walk.proofs.Loop.{Summing, sum_start, sum_pass, sum_ends}
 use Rattle.model.specs.declared.answers.Fault.{Fault}
 use Rattle.model.specs.Tables.{Model, states, actions, branches, first_branch, destination, weight, scale}
-use Rattle.model.specs.Answers.{pass, given, tried, require}
+use Rattle.model.specs.declared.answers.Verdict.{Verdict}
+use Rattle.model.specs.Answers.{pass, given, tried, each, require}
+use Rattle.model.specs.Checked.{accepts}
 use Rattle.model.specs.Refusals.{between, branch_test, total_test, action_test}
 use Rattle.model.proofs.Rising.{start_below}
 use Rattle.model.proofs.Searched.{ok_goes, err_stops, tried_ok, tried_err}
@@ -61,3 +64,7 @@ pub count_end : {t : Model} {a total j : ℕ} → Counting t a total j → first
     → require (eqb total (scale t a)) 11 a ≡ action_test t a
 unfolding total_test
 count_end {t} {a} w h = ap (λ (x : ℕ). require (eqb x (scale t a)) 11 a) (sum_ends w.summing h) ∙ try_end w.trying h
+
+-- a walk whose test at j does not pass answers what that test says
+pub stop_here : (test : ℕ → Verdict) (j hi : ℕ) (v : Verdict) → j < hi → accepts (test j) ≡ false → each test j hi v ≡ test j
+stop_here test j hi v h e = sym (try_stop (try_start test j hi v (omega arith)) h e)
