@@ -8,6 +8,7 @@ ghost use Rattle.model.specs.Checked.{refusal_of};
 ghost use Rattle.certfile.specs.Contents.{model_cut, claim_cut};
 ghost use Rattle.certfile.specs.Outcome.{outcome_in};
 ghost use Rattle.certfile.specs.Tables.{tables_in, lent, Roomy, SameTables};
+ghost use Rattle.program.specs.Held.{held, empty};
 ghost use Rattle.program.specs.Printed.{most_file, loaded_of, filled_by, chosen_in, refused_text, printed_of};
 ghost use Rattle.program.specs.Shows.{Shows, Long, Unprinted, Answered};
 
@@ -30,10 +31,20 @@ impl Bytes {
     const BESIDES: usize = Header::BYTES + Width::WORD + Width::WORD;
 }
 
-// The check program's room: states, actions and branches; the bytes of a file that fills it; and the bytes of what is printed.
-#[derive(Clone, Copy)]
-pub struct Room {}
+// The check program's room: its eight tables.
+#[derive(Drop)]
+pub struct Room {
+    marks: [u8; Room::STATES],
+    action_starts: [u32; Room::ACTION_STARTS],
+    branch_starts: [u32; Room::BRANCH_STARTS],
+    destinations: [u32; Room::BRANCHES],
+    weights: [u32; Room::BRANCHES],
+    costs: [u32; Room::STATES],
+    claims: [u64; Room::STATES],
+    ranks: [u32; Room::STATES],
+}
 
+// The states, actions and branches that it has room for; the bytes of a file that fills it; and the bytes of what is printed.
 impl Room {
     pub const STATES: usize = 500;
 
@@ -41,12 +52,58 @@ impl Room {
 
     pub const BRANCHES: usize = 2_000;
 
+    const ACTION_STARTS: usize = Room::STATES + 1;
+
+    const BRANCH_STARTS: usize = Room::ACTIONS + 1;
+
     pub const BYTES: usize = Bytes::BESIDES
         + Room::STATES * Bytes::STATE
         + Room::ACTIONS * Bytes::ACTION
         + Room::BRANCHES * Bytes::BRANCH;
 
     pub const TEXT: usize = Longest::VERDICT + Room::STATES * Longest::CHOICE;
+
+    // All zeros.
+    pub fn new() -> Room
+        ensures { held result ≡ empty }
+    {
+        Room {
+            marks: [0; Room::STATES],
+            action_starts: [0; Room::ACTION_STARTS],
+            branch_starts: [0; Room::BRANCH_STARTS],
+            destinations: [0; Room::BRANCHES],
+            weights: [0; Room::BRANCHES],
+            costs: [0; Room::STATES],
+            claims: [0; Room::STATES],
+            ranks: [0; Room::STATES],
+        }
+    }
+
+    // The tables, lent together.
+    pub fn lend(&mut self) -> Lent<'_>
+        ensures { tables_in result ≡ held self.old }
+    {
+        let Room {
+            marks,
+            action_starts,
+            branch_starts,
+            destinations,
+            weights,
+            costs,
+            claims,
+            ranks,
+        } = self;
+        Lent {
+            marks: &mut marks[..],
+            action_starts: &mut action_starts[..],
+            branch_starts: &mut branch_starts[..],
+            destinations: &mut destinations[..],
+            weights: &mut weights[..],
+            costs: &mut costs[..],
+            claims: &mut claims[..],
+            ranks: &mut ranks[..],
+        }
+    }
 }
 
 // The most bytes that any file has.
@@ -151,31 +208,12 @@ pub fn answer_within(
     }
 }
 
-// Puts what the check program prints for a file at the beginning of the text, and answers its length. `rewritten` has a room of the same
-// arrays: to lend them to a closure, a clause would have to say what it did to the text that it captures, which is no plainer.
-#[tactic(auto, unfolding(crate::specs::Printed::printed_of))]
+// Puts what the check program prints for a file at the beginning of the text, and answers its length.
 pub fn answer(file: &[u8], text: &mut [u8]) -> usize
     requires { Room.TEXT ≤ length text.old }
     ensures { Shows (printed_of file.now) result text.old text.new }
 {
-    let mut marks = [0u8; Room::STATES];
-    let mut action_starts = [0u32; Room::STATES + 1];
-    let mut branch_starts = [0u32; Room::ACTIONS + 1];
-    let mut destinations = [0u32; Room::BRANCHES];
-    let mut weights = [0u32; Room::BRANCHES];
-    let mut costs = [0u32; Room::STATES];
-    let mut claims = [0u64; Room::STATES];
-    let mut ranks = [0u32; Room::STATES];
+    let mut room = Room::new();
     let mut choices = [0u32; Room::STATES];
-    let mut tables = Lent {
-        marks: &mut marks,
-        action_starts: &mut action_starts,
-        branch_starts: &mut branch_starts,
-        destinations: &mut destinations,
-        weights: &mut weights,
-        costs: &mut costs,
-        claims: &mut claims,
-        ranks: &mut ranks,
-    };
-    answer_within(Room::BYTES, file, &mut tables, &mut choices, text).bytes
+    answer_within(Room::BYTES, file, &mut room.lend(), &mut choices, text).bytes
 }

@@ -4,7 +4,6 @@
 
 ghost use Rattle.std.specs.Prelude.{◌+◌, ◌≤◌, ◌<◌, ◌^◌, length, IfOk};
 
-use certfile::Lent;
 use model::{Fault, Refusal};
 use program::Room;
 use report::Longest;
@@ -38,24 +37,8 @@ fn compared(file: &[u8], written: &[u8], text: &mut [u8]) -> usize
 fn rewrite(file: &[u8], buffer: &mut [u8]) -> Result<usize, Fault>
     ensures { IfOk result (λ n. n ≤ length buffer.new) }
 {
-    let mut marks = [0u8; Room::STATES];
-    let mut action_starts = [0u32; Room::STATES + 1];
-    let mut branch_starts = [0u32; Room::ACTIONS + 1];
-    let mut destinations = [0u32; Room::BRANCHES];
-    let mut weights = [0u32; Room::BRANCHES];
-    let mut costs = [0u32; Room::STATES];
-    let mut claims = [0u64; Room::STATES];
-    let mut ranks = [0u32; Room::STATES];
-    let mut tables = Lent {
-        marks: &mut marks,
-        action_starts: &mut action_starts,
-        branch_starts: &mut branch_starts,
-        destinations: &mut destinations,
-        weights: &mut weights,
-        costs: &mut costs,
-        claims: &mut claims,
-        ranks: &mut ranks,
-    };
+    let mut room = Room::new();
+    let mut tables = room.lend();
     Refusal::Counts.unless(file.len() <= Room::BYTES, 0)?;
     let h = certfile::read(file, &mut tables)?;
     writer::write(h.kind, &tables.model(h), &tables.claim(h), buffer)
