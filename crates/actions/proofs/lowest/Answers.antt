@@ -32,4 +32,4 @@ returns c =
     let p = λ (a : ℕ). beq (kept c.args.asked (suits_in c.args.kind c.args.state y a) (falls_in c.args.state y a)) c.args.wanted in
     found_first p c.args.state.first c.args.state.end c.requires.walkable.rises c.find.result
     (first_from_Range _ _ _ c.find.result (λ i. p i ≡ true) (λ i. p i ≡ false) c.find.ensures.ran
-    (λ x q k. search (rules, tests)) (λ x q k. search (rules, tests)))
+    (λ x q k. search (rules, tests)) (λ x q k. (search (rules, tests), search (rules, tests))))
