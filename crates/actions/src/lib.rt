@@ -25,7 +25,8 @@ pub struct State {
     pub rank: u32,
 }
 
-// The sum over a stretch of branches of weight times the destination's claim.
+// The sum over a stretch of branches of weight times the destination's claim. It differs from `sweep` by the rank alone, and stands apart
+// for speed.
 fn weighted(t: &Model, u: &Claim, stretch: Range<usize>) -> u64
     requires { let y = rows_in (model_in t.now) (claim_in u.now) in
         Weighable y.destinations y.weights y.claims stretch.start stretch.end }
@@ -41,9 +42,9 @@ fn weighted(t: &Model, u: &Claim, stretch: Range<usize>) -> u64
 
 // That sum, and the least rank of the destinations; the mark for none is the largest.
 #[derive(Clone, Copy)]
-pub struct Swept {
-    pub sum: u64,
-    pub least: u32,
+struct Swept {
+    sum: u64,
+    least: u32,
 }
 
 fn sweep(t: &Model, u: &Claim, stretch: Range<usize>) -> Swept
@@ -99,7 +100,7 @@ fn judge_action(kind: Kind, asked: bool, state: State, t: &Model, u: &Claim, a: 
 }
 
 // The lowest action of a state that suits and, where 24 is asked, falls; or the lowest that does not, as wanted. None if there is none.
-// What is wanted and asked are no closure: it would hold these two, and a caller passes them twice.
+// What is wanted and asked are parameters, and no closure: it would hold these two, and a caller passes them twice.
 pub fn lowest(
     kind: Kind,
     wanted: bool,
@@ -113,10 +114,5 @@ pub fn lowest(
     ensures { let y = rows_in (model_in t.now) (claim_in u.now) in
         result ≡ below (lowest_of kind wanted asked state y) state.end }
 {
-    for a in state.first..state.end {
-        if judge_action(kind, asked, state, t, u, a) == wanted {
-            return Some(a);
-        }
-    }
-    None
+    (state.first..state.end).find(|a| judge_action(kind, asked, state, t, u, *a) == wanted)
 }

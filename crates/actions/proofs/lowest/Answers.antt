@@ -1,23 +1,35 @@
--- `actions::lowest` meets its contract: none of the state's actions below a is the one. Assumes nothing.
+-- `actions::lowest` meets its contract: the first action that is judged as wanted was sought. Assumes nothing.
+use Prim.Native.Nat.{ℕ, ◌≤◌, ◌<◌}
+use native.Mathlib.Nat.{le_refl, le_of_lt}
+use native.Mathlib.Omega.{arith}
 use borrow.Author.Tests.{lt-ltb, le-ltb}
-use native.Mathlib.Nat.{le_refl}
-use Rattle.walk.proofs.Loop.{seek_start, seek_pass, seek_hit, seek_end}
-use Rattle.actions.specs.Judging.{lowest_of}
+use Rattle.std.specs.Prelude.{Option, Some, None}
+use Rattle.std.specs.Bool.{beq}
+use Rattle.std.specs.Option.{MatchOption}
+use Rattle.std.proofs.Common.{rules, tests, ◌≡◌, true, false, Bool}
+use Rattle.std.proofs.lemmas.Iterator.{first_from_Range}
+use Rattle.walk.specs.Fold.{first}
+use Rattle.walk.proofs.Fold.{lowest_is}
+use Rattle.model.specs.Tables.{model_in, claim_in}
+use Rattle.actions.specs.Judging.{rows_in, kept, suits_in, falls_in, lowest_of, below}
 use Rattle.actions.proofs.lowest.Goals as goal
 
-pub loop-a-init : goal.loop-a-init
-unfolding lowest_of
-loop-a-init c = seek_start _ _ _ c.requires.walkable.rises
-
-pub returns-then-judge_action-wanted : goal.returns-then-judge_action-wanted
-returns-then-judge_action-wanted c =
-    let h = seek_hit c.loop-a.invariant c.loop-a-test.true (rw (← c.judge_action.ensures) c.if-judge_action-wanted.true) in
-    rw (← h, lt-ltb c.loop-a.a c.args.state.end c.loop-a-test.true)
-
-pub loop-a-preserved : goal.loop-a-preserved
-loop-a-preserved c =
-    seek_pass c.loop-a.invariant c.loop-a-test.true (rw (← c.judge_action.ensures) c.if-judge_action-wanted.false)
+-- what a search of a range comes to
+module _ (p : ℕ → Bool) (lo hi : ℕ) (h : lo ≤ hi) where
+  found_first : (r : Option ℕ)
+      → MatchOption r ((i : ℕ) → lo ≤ i → i < hi → p i ≡ false)
+      (λ i. (lo ≤ i) × (i < hi) × (p i ≡ true) × ((j : ℕ) → lo ≤ j → j < i → p j ≡ false))
+      → r ≡ below (first p lo hi) hi
+  found_first None m =
+      rw (lowest_is p hi lo hi h (record { low = h; high = le_refl hi; hit = λ l. absurd (omega arith); passed = m }), le-ltb hi hi (le_refl hi))
+  found_first (Some i) m =
+      rw (lowest_is p hi lo i h (record { low = m.0; high = le_of_lt m.1; hit = λ l. m.2; passed = m.3 }), lt-ltb i hi m.1)
 
 pub returns : goal.returns
+unfolding lowest_of
 returns c =
-    let end = c.args.state.end in rw (← seek_end c.loop-a.invariant c.loop-a-test.false, le-ltb end end (le_refl end))
+    let y = rows_in (model_in c.args.t.now) (claim_in c.args.u.now) in
+    let p = λ (a : ℕ). beq (kept c.args.asked (suits_in c.args.kind c.args.state y a) (falls_in c.args.state y a)) c.args.wanted in
+    found_first p c.args.state.first c.args.state.end c.requires.walkable.rises c.find.result
+    (first_from_Range _ _ _ c.find.result (λ i. p i ≡ true) (λ i. p i ≡ false) c.find.ensures.ran
+    (λ x q k. search (rules, tests)) (λ x q k. (search (rules, tests), search (rules, tests))))
