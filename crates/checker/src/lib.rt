@@ -70,7 +70,8 @@ fn check_kind(kind: Kind, t: &Model, u: &Claim, choices: &mut [u32]) -> Verdict
 }
 
 // Judges the claim that the lent tables make: accepted, violated or refused, as document 01 says. Only an accepted "some"
-// claim writes the choice list, and it writes all of it.
+// claim writes the choice list, and it writes all of it. Any number is taken for a kind, since one that is none is refused here. Model
+// and claim are two structs, since rows are counted before there is a claim.
 pub fn check(kind: u32, t: &Model, u: &Claim, choices: &mut [u32]) -> Answer
     ensures { Checked kind (model_in t.now) (claim_in u.now) choices.old result choices.new }
 {

@@ -82,7 +82,7 @@ pub enum Condition {
     Falls = 24,
 }
 
-// A condition that is broken, the state, and its action or none.
+// A condition that is broken, the state, and its action or the mark for none, as the answer has it.
 #[derive(Clone, Copy, Debug, PartialEq, Eq)]
 pub struct Violation {
     pub condition: Condition,

@@ -18,7 +18,7 @@ fn stretch_of(length: usize, branch_starts: &[u32], action: u32) -> Range<usize>
 }
 
 // The entries of a table that belong to an action by its two starts. Where there is no such action, or its two starts do not
-// rise within the table, the empty stretch at its beginning.
+// rise within the table, the empty stretch at its beginning. Document 01 asks for this very part of the caller's table.
 pub fn branches<'a>(table: &'a [u32], branch_starts: &[u32], action: u32) -> &'a [u32]
     ensures entries { let x = stretch_of (length table.now) branch_starts.now action in
         result.now ≡ within table.now x }

@@ -124,7 +124,7 @@ pub struct Told {
     pub bytes: usize,
 }
 
-// Prints a refusal, of any number.
+// Prints a refusal, of any number: an enum in its place would ask more of callers.
 #[tactic(auto, unfolding(crate::specs::Printed::refused_text))]
 pub fn refused(number: u32, place: u32, text: &mut [u8]) -> usize
     requires { 64 ≤ length text.old }

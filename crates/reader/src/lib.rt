@@ -37,8 +37,8 @@ impl<'a> Reader<'a> {
     }
 }
 
-// The same at a place of a file, for the first entries of a table: whoever reads a file calls these. The number of entries stands
-// beside the table, since a caller that cuts the table owes three proofs where it owes one here.
+// The same at a place of a file: few thin functions with plain parameters, as document 01 asks. The number of entries stands beside
+// the table, since what is promised is that the rest of the table stays.
 pub fn word<W: Word>(file: &[u8], at: usize) -> W
     requires { at + W.BYTES ≤ length file.now }
     ensures { W.number result ≡ word W.BYTES file.now at }

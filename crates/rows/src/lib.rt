@@ -38,7 +38,7 @@ fn start_right(starts: &[u32], end: usize, i: usize) -> bool
     start_rises(starts, i) && start_ends(starts, end, i)
 }
 
-// 6 and 7: the starts begin at 0, rise strictly and end at the end.
+// 6 and 7: the starts begin at 0, rise strictly and end at the end. A start is judged by its place, with the one before it.
 fn starts_test(refusal: Refusal, starts: &[u32], end: usize) -> Result<(), Fault>
     requires { length starts.now < 2 ^ 32 }
     ensures { tested result ≡ starts_test (code refusal) starts.now end }

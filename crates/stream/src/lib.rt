@@ -81,6 +81,7 @@ pub fn each<R: Read, F: FnMut(&[u8]) -> io::Result<()>>(
     ensures calls { OnOk result (CallsOnEach (CalledAt F.FnMut) (length file.old) (R.remaining input.old) (R.remaining input.new) answer) }
     ensures left { Loses (R.remaining input.old) (R.remaining input.new) }
 {
+    // The input has no end that a proof knows, so the loop has one. Its name is that of its goals.
     'cases: for _ in 0..u64::MAX {
         let Some(bytes) = read(input, file)? else {
             return Ok(());

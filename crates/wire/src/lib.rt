@@ -179,7 +179,7 @@ pub fn fill<W: Word>(file: &[u8], at: usize, table: &mut [W])
     }
 }
 
-// Puts the numbers of a table into a file, one after the other, and answers the next place.
+// Puts the numbers of a table into a file, one after the other, and answers the next place. File and place are as in `put`.
 pub fn spell<W: Word>(file: &mut [u8], at: usize, table: &[W]) -> usize
     requires { at + W.BYTES * length table.now ≤ length file.old }
     ensures { Put file.old file.new at result (W.texts table.now) }
