@@ -101,6 +101,7 @@ fn judge_action(kind: Kind, asked: bool, state: State, t: &Model, u: &Claim, a: 
 
 // The lowest action of a state that suits and, where 24 is asked, falls; or the lowest that does not, as wanted. None if there is none.
 // What is wanted and asked are parameters, and no closure: it would hold these two, and a caller passes them twice.
+// `Walkable` ties a state's numbers to the tables of two structs, so it is no invariant of one of them.
 pub fn lowest(
     kind: Kind,
     wanted: bool,

@@ -39,7 +39,8 @@ impl Lent<'_> {
         }
     }
 
-    // The model that stands at their front, as a header counts it.
+    // The model that stands at their front, as a header counts it. That they have room for it is asked here and at `claim`: the tables
+    // are lent before there is a header, so it is no invariant of theirs.
     #[tactic(auto, using(crate::proofs::Contents::cut_is))]
     pub fn model(&self, h: Header) -> Model<'_>
         requires { Roomy h (lent (tables_in self.now)) }

@@ -57,7 +57,8 @@ impl Refusal {
         }
     }
 
-    // Refused at the place where something wrong was found, if any.
+    // Refused at the place where something wrong was found, if any. An answer tells a place in 32 bits, so each table that is searched is
+    // asked to be so short; no type of slice says that.
     #[tactic(auto, unfolding(crate::specs::Answers::found))]
     pub fn where_found(self, place: Option<usize>) -> Result<(), Fault>
         requires { IfSome place (λ i. i < 2 ^ 32) }
