@@ -2,6 +2,7 @@
 ghost use Rattle.std.specs.Prelude.{◌≡◌, ◌^◌, ◌<◌, IfSome};
 ghost use Rattle.model.specs.Answers.{code, asked, number, given, broken, tested, held, then, require, found};
 ghost use Rattle.model.specs.Checked.{accepts};
+ghost use Rattle.model.specs.declared.answers.Verdict.TheVariants.{Refused};
 ghost use Rattle.model.specs.Conditions.{ask};
 
 // Document 01's refusals, each with its number: 1 to 14 over tables, 31 to 34 over a file, 35 over a buffer to write into.
@@ -42,19 +43,24 @@ impl Refusal {
         self as u32
     }
 
+    // Apart and cold, so that a loop that may refuse does not carry the refusal's place along with each turn.
+    #[cold]
+    #[inline(never)]
+    fn at(self, place: u32) -> Fault
+        ensures { given result ≡ Refused (code self) place }
+    {
+        Fault {
+            refusal: self,
+            place,
+        }
+    }
+
     // Refused at this place, unless it is right.
     #[tactic(auto, unfolding(crate::specs::Answers::require))]
     pub fn unless(self, right: bool, place: u32) -> Result<(), Fault>
         ensures { tested result ≡ require right (code self) place }
     {
-        if right {
-            Ok(())
-        } else {
-            Err(Fault {
-                refusal: self,
-                place,
-            })
-        }
+        if right { Ok(()) } else { Err(self.at(place)) }
     }
 
     // Refused at the place where something wrong was found, if any. An answer tells a place in 32 bits, so each table that is searched is
@@ -65,10 +71,7 @@ impl Refusal {
         ensures { tested result ≡ found (code self) place }
     {
         match place {
-            Some(i) => Err(Fault {
-                refusal: self,
-                place: i as u32,
-            }),
+            Some(i) => Err(self.at(i as u32)),
             None => Ok(()),
         }
     }
