@@ -1,4 +1,4 @@
-// The eight tables that a file is read into, lent together, and what they hold once it was read.
+// The eight tables that a file is read into, lent together, as C lends them one by one; and what they hold once it was read.
 ghost use Rattle.std.specs.Prelude.{◌≡◌};
 ghost use Rattle.model.specs.Tables.{model_in as model_lent, claim_in as claim_lent};
 ghost use Rattle.certfile.specs.Contents.{model_cut, claim_cut};

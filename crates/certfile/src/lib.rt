@@ -15,7 +15,7 @@ pub use layout::{counts_of, length_of};
 pub use lent::Lent;
 use model::{Fault, Lengths};
 
-// What a file says before its tables.
+// What a file says before its tables, in the file's own numbers, the kind's too: so C takes them.
 #[derive(Clone, Copy, Debug, PartialEq, Eq)]
 pub struct Header {
     pub kind: u32,

@@ -83,6 +83,7 @@ pub fn check(kind: u32, t: &Model, u: &Claim, choices: &mut [u32]) -> Answer
 }
 
 // The refusal from 1 to 14 that stands over the lent tables with a choice list so long, or none. It writes nothing.
+// Any number is taken for a kind, as in `check`.
 #[tactic(auto, using(crate::proofs::Whole::known_refusal, crate::proofs::Whole::unknown_refusal))]
 pub fn refuse(kind: u32, t: &Model, u: &Claim, chosen: usize) -> Result<(), Fault>
     ensures { tested result ≡ refusal_of kind (model_in t.now) (claim_in u.now) chosen }

@@ -153,7 +153,8 @@ pub fn entries_of(has: bool, n: usize) -> usize
     if has { n } else { 0 }
 }
 
-// The entries of the choice list: one for each state, where the kind writes choices.
+// The entries of the choice list: one for each state, where the kind writes choices. Any number is taken for a kind, and one that is
+// none writes none.
 pub fn choice_count(kind: u32, n: usize) -> usize
     ensures { result ≡ choice_count kind n }
 {

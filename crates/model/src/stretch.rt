@@ -4,7 +4,7 @@ ghost use Rattle.model.specs.Branches.{stretch_of, within};
 
 use std::ops::Range;
 
-// Where the branches of an action stand in a table of this length.
+// Where the branches of an action stand in a table of this length, by the starts that are lent.
 #[tactic(auto, unfolding(crate::specs::Branches::stretch_of, crate::specs::Branches::rises))]
 fn stretch_of(length: usize, branch_starts: &[u32], action: u32) -> Range<usize>
     ensures { result ≡ stretch_of length branch_starts.now action }

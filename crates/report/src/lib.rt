@@ -143,7 +143,7 @@ impl<'a> Text<'a> {
         }
     }
 
-    // All that is printed: the choices follow after acceptance.
+    // All that is printed: the choices follow after acceptance, a case of the verdict and not of a Result that is handed on.
     fn all(&mut self, verdict: Verdict, choices: &[u32])
         requires { self.old.at + 64 + 32 * length choices.now ≤ length self.old.bytes.now }
         ensures same { Same self.old self.new }

@@ -1,7 +1,8 @@
 -- The walk over one action's branches: what it has shown at branch j, and what each way out of it answers. Assumes nothing.
 use mathlib.Core.Bool.{false}
 use mathlib.Core.Path.{◌≡◌, sym, ap, ◌∙◌}
-use mathlib.Core.List.{[], ◌∷◌}
+use mathlib.Core.List.{List, [], ◌∷◌}
+use borrow.Author.Tests.{lt-ltb, le-leb, lt-leb}
 use Prim.Native.Nat.{ℕ, ◌+◌, ◌*◌, ◌≤◌, ◌<◌, zero-le}
 use native.Mathlib.Nat.{le_of_lt}
 use native.Mathlib.Omega.{arith}
@@ -9,10 +10,13 @@ use lib.Dec.{eqb, ltb}
 use Rattle.walk.specs.Fold.{sum}
 use Rattle.walk.proofs.Loop.{Summing, sum_start, sum_pass, sum_ends}
 use Rattle.model.specs.declared.answers.Fault.{Fault}
+use Rattle.model.specs.Tables.{destination_at, weight_at}
 use Rattle.model.specs.Tables.{Model, states, actions, branches, first_branch, destination, weight, scale}
 use Rattle.model.specs.declared.answers.Verdict.{Verdict}
-use Rattle.model.specs.Answers.{pass, given, tried, each, require}
+use Rattle.model.specs.declared.answers.Verdict.TheVariants.{Refused}
+use Rattle.model.specs.Answers.{pass, given, then, tried, each, require}
 use Rattle.model.specs.Checked.{accepts}
+use Rattle.model.specs.Refusals.{branch_over}
 use Rattle.model.specs.Refusals.{between, branch_test, total_test, action_test}
 use Rattle.model.proofs.Rising.{start_below}
 use Rattle.model.proofs.Searched.{ok_goes, err_stops, tried_ok, tried_err}
@@ -68,3 +72,10 @@ count_end {t} {a} w h = ap (λ (x : ℕ). require (eqb x (scale t a)) 11 a) (sum
 -- a walk whose test at j does not pass answers what that test says
 pub stop_here : (test : ℕ → Verdict) (j hi : ℕ) (v : Verdict) → j < hi → accepts (test j) ≡ false → each test j hi v ≡ test j
 stop_here test j hi v h e = sym (try_stop (try_start test j hi v (omega arith)) h e)
+
+-- a weight above D at branch j, whose destination is a state
+module _ (d n : ℕ) (destinations weights : List ℕ) (j : ℕ) (l : destination_at destinations j < n) where
+  pub high : 1 ≤ weight_at weights j → d < weight_at weights j → branch_over d n destinations weights j ≡ Refused 10 j
+  unfolding tried require then
+  high g h =
+      rw (lt-ltb (destination_at destinations j) n l, le-leb 1 (weight_at weights j) g, lt-leb (weight_at weights j) d h)

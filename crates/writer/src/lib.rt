@@ -45,7 +45,7 @@ fn head(file: &mut [u8], h: Header, bytes: usize) -> usize
 }
 
 // What writing the file into a buffer of so many bytes would answer: its length, or the first refusal: 1 to 14 as the checker gives
-// them, with the choice list aside, and then 35.
+// them, with the choice list aside, and then 35. Any number is taken for a kind, since one that is none is refused here.
 #[tactic(auto, using(crate::proofs::Judged::previewing))]
 pub fn preview(kind: u32, t: &Model, u: &Claim, buffer: usize) -> Result<usize, Fault>
     ensures { written_in result ≡ written_of kind (model_in t.now) (claim_in u.now) buffer }
@@ -57,7 +57,7 @@ pub fn preview(kind: u32, t: &Model, u: &Claim, buffer: usize) -> Result<usize, 
 }
 
 // Writes the file that the lent tables make into a lent buffer, from its front on, and answers its length; or the first refusal, which
-// writes nothing.
+// writes nothing. The kind is any number, as in `preview`.
 #[tactic(auto, using(crate::proofs::Judged::writing))]
 pub fn write(kind: u32, t: &Model, u: &Claim, buffer: &mut [u8]) -> Result<usize, Fault>
     ensures { WrittenInto (written_in result) kind (model_in t.now) (claim_in u.now) buffer.old buffer.new }
