@@ -42,9 +42,9 @@ fn weighted(t: &Model, u: &Claim, stretch: Range<usize>) -> u64
 
 // That sum, and the least rank of the destinations; the mark for none is the largest.
 #[derive(Clone, Copy)]
-struct Swept {
-    sum: u64,
-    least: u32,
+pub struct Swept {
+    pub sum: u64,
+    pub least: u32,
 }
 
 fn sweep(t: &Model, u: &Claim, stretch: Range<usize>) -> Swept

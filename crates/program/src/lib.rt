@@ -32,7 +32,7 @@ impl Bytes {
 }
 
 // The check program's room: its eight tables.
-#[derive(Drop)]
+#[derive(Clone, Copy)]
 pub struct Room {
     marks: [u8; Room::STATES],
     action_starts: [u32; Room::ACTION_STARTS],

@@ -3,17 +3,32 @@ use Rattle.std.specs.Prelude.{ℕ, ◌+◌, ◌*◌, Bool, ◌&&◌, List, [], �
 use Rattle.model.specs.declared.answers.Answer.{Answer}
 use Rattle.model.specs.declared.answers.Fault.{Fault}
 use Rattle.model.specs.Answers.{code, number, value, action}
+use Rattle.certfile.specs.declared.Header.{Header}
 use Rattle.certfile.specs.Outcome.{Outcome, Read, Refused}
 use Rattle.writer.specs.Written.{Written, Length, Refused as Unwritten}
+use Rattle.results.specs.declared.Numbered.{Numbered}
 
 -- an answer in four numbers: number; R, place or state; action or none; kind
 abbrev pub numbers_of : Answer → List ℕ
 numbers_of r = number r.verdict ∷ value r.verdict ∷ action r.verdict ∷ r.kind ∷ []
 
+-- one of document 01's refusals, by its number
+abbrev pub numbered : Fault → Numbered
+numbered f = record { number = code f.refusal; place = f.place }
+
+-- what reading and writing answer, where a refusal has this number and this place
+abbrev pub read_by : {E : Type 0} → (E → Numbered) → Result Header E → Outcome
+read_by told (Ok h) = Read h
+read_by told (Err e) = Refused (told e).number (told e).place
+
+abbrev pub written_by : {E : Type 0} → (E → Numbered) → Result ℕ E → Written
+written_by told (Ok bytes) = Length bytes
+written_by told (Err e) = Unwritten (told e).number (told e).place
+
 -- the number of a refusal, or this one where there is none
-abbrev pub refusal_or : {A : Type 0} → ℕ → Result A Fault → ℕ
-refusal_or number (Ok x) = number
-refusal_or number (Err f) = code f.refusal
+abbrev pub refusal_or : {A E : Type 0} → (E → Numbered) → ℕ → Result A E → ℕ
+refusal_or told number (Ok x) = number
+refusal_or told number (Err e) = (told e).number
 
 -- the number of a refusal, or the one that stands for a file that is read
 unfoldable pub number_or : ℕ → Outcome → ℕ

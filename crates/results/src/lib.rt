@@ -3,9 +3,8 @@
 
 ghost use Rattle.std.specs.Prelude.{◌≡◌, [], ◌∷◌, length};
 ghost use Rattle.model.specs.Answers.{number, value, action};
-ghost use Rattle.certfile.specs.Outcome.{outcome_in};
-ghost use Rattle.writer.specs.Written.{written_in};
-ghost use Rattle.results.specs.Lists.{numbers_of, refusal_or, header_after, pair_of, lists_right};
+ghost use Rattle.results.specs.declared.Numbered.{Numbered};
+ghost use Rattle.results.specs.Lists.{numbers_of, numbered, refusal_or, read_by, written_by, header_after, pair_of, lists_right};
 
 use certfile::Header;
 use model::{Answer, Fault, Rank, Verdict};
@@ -49,21 +48,55 @@ impl HeaderList {
     pub const COUNT: usize = 6;
 }
 
+// A refusal of any number, and its place.
+#[derive(Clone, Copy, Debug, PartialEq, Eq)]
+pub struct Numbered {
+    pub number: u32,
+    pub place: u32,
+}
+
+// What the lists take of a refusal: its number, which may be any and not only one of document 01's, and its place.
+pub trait Refused: Copy {
+    ghost numbered: { Self → Numbered };
+
+    fn told(self) -> Numbered
+        ensures { result ≡ numbered self };
+}
+
+impl Refused for Fault {
+    ghost numbered = { numbered };
+
+    fn told(self) -> Numbered {
+        Numbered {
+            number: self.refusal.number(),
+            place: self.place,
+        }
+    }
+}
+
+impl Refused for Numbered {
+    ghost numbered = { λ r. r };
+
+    fn told(self) -> Numbered {
+        self
+    }
+}
+
 // The number of a refusal, or this one where a file is read or written.
-pub fn number_or<T: Copy>(done: Result<T, Fault>, number: u32) -> u32
-    ensures { result ≡ refusal_or number done }
+pub fn number_or<T: Copy, E: Refused>(done: Result<T, E>, number: u32) -> u32
+    ensures { result ≡ refusal_or E.numbered number done }
 {
     match done {
         Ok(_) => number,
-        Err(fault) => fault.refusal.number(),
+        Err(refusal) => refusal.told().number,
     }
 }
 
 // Writes what a file says before its tables into a list of six: a refusal leaves it alone.
 #[tactic(auto, unfolding(crate::specs::Lists::header_after))]
-pub fn put_header(read: Result<Header, Fault>, header: &mut [u32])
+pub fn put_header<E: Refused>(read: Result<Header, E>, header: &mut [u32])
     requires { length header.old ≡ 6 }
-    ensures { header.new ≡ header_after (outcome_in read) header.old }
+    ensures { header.new ≡ header_after (read_by E.numbered read) header.old }
 {
     if let Ok(h) = read {
         header.copy_from_slice(&[h.kind, h.d, h.c, h.n, h.m, h.b]);
@@ -88,13 +121,16 @@ pub fn put_two(first: u64, second: u64, res: &mut [u64])
 
 // Writes what writing answered into a list of two.
 #[tactic(auto, unfolding(crate::specs::Lists::pair_of))]
-pub fn put_written(written: Result<usize, Fault>, res: &mut [u64])
+pub fn put_written<E: Refused>(written: Result<usize, E>, res: &mut [u64])
     requires { length res.old ≡ 2 }
-    ensures { res.new ≡ pair_of (written_in written) }
+    ensures { res.new ≡ pair_of (written_by E.numbered written) }
 {
     match written {
         Ok(bytes) => put_two(0, bytes as u64, res),
-        Err(fault) => put_two(fault.refusal.number() as u64, fault.place as u64, res),
+        Err(refusal) => {
+            let told = refusal.told();
+            put_two(told.number as u64, told.place as u64, res)
+        }
     }
 }
 

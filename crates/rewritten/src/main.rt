@@ -39,9 +39,19 @@ fn rewrite(file: &[u8], buffer: &mut [u8]) -> Result<usize, Fault>
 {
     let mut room = Room::new();
     let mut tables = room.lend();
-    Refusal::Counts.unless(file.len() <= Room::BYTES, 0)?;
     let h = certfile::read(file, &mut tables)?;
     writer::write(h.kind, &tables.model(h), &tables.claim(h), buffer)
+}
+
+// Writes the file anew and tells whether it is the same. Whether it fits is asked before any room is made for it.
+fn told(file: &[u8], text: &mut [u8]) -> Result<usize, Fault>
+    requires { 64 ≤ length text.old }
+    ensures { IfOk result (λ n. n ≤ length text.new) }
+{
+    Refusal::Counts.unless(file.len() <= Room::BYTES, 0)?;
+    let mut buffer = [0u8; Room::BYTES];
+    let bytes = rewrite(file, &mut buffer)?;
+    Ok(compared(file, &buffer[..bytes], text))
 }
 
 // What came of writing the file anew.
@@ -49,9 +59,8 @@ fn rewritten(file: &[u8], text: &mut [u8]) -> usize
     requires { 64 ≤ length text.old }
     ensures { result ≤ length text.new }
 {
-    let mut buffer = [0u8; Room::BYTES];
-    match rewrite(file, &mut buffer) {
-        Ok(bytes) => compared(file, &buffer[..bytes], text),
+    match told(file, text) {
+        Ok(bytes) => bytes,
         Err(fault) => program::refused(fault.refusal.number(), fault.place, text),
     }
 }

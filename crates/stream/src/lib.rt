@@ -34,11 +34,15 @@ pub fn fill<R: Read>(input: &mut R, bytes: &mut [u8]) -> io::Result<usize>
 
 const PIECE: usize = 4096;
 
-// Drops so many bytes, or fewer where the input ends. `io::copy` into a sink says nothing of what an input lost before an error.
+// Drops so many bytes, or fewer where the input ends. `io::copy` into a sink says nothing of what an input lost before an error. Where
+// there is nothing to drop, no piece is zeroed for it.
 fn skip<R: Read>(input: &mut R, count: usize) -> io::Result<()>
     ensures ok { OnOk result (GivesSome (R.remaining input.old) (R.remaining input.new) count) }
     ensures left { Loses (R.remaining input.old) (R.remaining input.new) }
 {
+    if count == 0 {
+        return Ok(());
+    }
     let mut piece = [0u8; PIECE];
     let mut left = count;
     while 0 < left {

@@ -61,7 +61,7 @@ pub extern "C" fn vartrymoy_check(
 }
 
 // Reads a file into the lent tables, as certfile::read does, and answers 0 or the number of the refusal.
-#[tactic(auto, using(results::proofs::Numbers::refusal_read))]
+#[tactic(auto, using(results::proofs::Numbers::refusal_read, results::proofs::Numbers::read_fault))]
 #[unsafe(no_mangle)]
 pub extern "C" fn vartrymoy_read(
     file: &[u8],
@@ -101,7 +101,7 @@ pub extern "C" fn vartrymoy_read(
 }
 
 // Writes the file that the lent tables make into a lent buffer, as writer::write does, and answers 0 or the number of the refusal.
-#[tactic(auto, using(results::proofs::Numbers::refusal_written))]
+#[tactic(auto, using(results::proofs::Numbers::refusal_written, results::proofs::Numbers::written_fault))]
 #[unsafe(no_mangle)]
 pub extern "C" fn vartrymoy_write(
     kind: u32,

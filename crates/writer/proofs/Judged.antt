@@ -206,4 +206,4 @@ module _ (kind : ℕ) (t : Model) (u : Claim) where
 -- what `preview` takes, and `write`, in one name each
 pub ruleset previewing = (refused_first, countable_after, too_short, long_enough)
 
-pub ruleset writing = (room_told, countable_told, head_length, spelled_length)
+pub ruleset writing = (room_told, countable_told, head_length, spelled_length, left)
